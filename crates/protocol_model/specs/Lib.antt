@@ -1,0 +1,15 @@
+pub mod Search
+pub mod Bits
+pub mod Numbers
+pub mod Reading
+pub mod Cond
+pub mod Value
+pub mod BuiltIn
+pub mod Packet
+pub mod PacketReading
+pub mod Payload
+pub mod World
+pub mod Sight
+pub mod Nodes
+pub mod Changes
+pub mod Side

@@ -1,0 +1,10 @@
+pub mod Examples
+pub mod Laws
+pub mod Tables
+pub mod Scripts
+pub mod Transcripts
+pub mod LossTranscripts
+pub mod ClosingTranscripts
+pub mod ForgedTranscripts
+pub mod VersionTranscripts
+pub mod LongTranscripts

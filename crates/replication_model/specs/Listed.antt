@@ -1,0 +1,49 @@
+-- Counts that bound the work of gathering and of a tick.
+use Rattle.std.specs.Prelude.{ℕ, ◌-◌, List, Bool, true, not, ◌&&◌, ◌||◌, count_by, sum_by, filter}
+use Rattle.std.specs.List.{list_any}
+use Rattle.protocol_model.specs.Value.{Table, handle_count}
+use Rattle.protocol_model.specs.declared.Reach.{Reach}
+use Rattle.protocol_model.specs.declared.Reach.TheVariants.{Always, Near, Owner}
+use Rattle.protocol_model.specs.World.{Edits, actors_of, class_of, lives, value_of, owns, viewer_of, is_added}
+use Rattle.protocol_model.specs.Sight.{is_relevant, are_teamed, seen_of}
+use Rattle.replication_model.specs.Feed.{Past, has_ended}
+use Rattle.replication_model.specs.Items.{is_quiet}
+use Rattle.protocol_model.specs.Nodes.{touches}
+
+-- the square of the actor touches the cell of the player's viewer
+abbrev pub touches_viewer : (cull : ℕ) → Table → Edits → (player actor : ℕ) → Bool
+touches_viewer cull table edits player a =
+    touches cull (value_of table edits a 1) (viewer_of edits player).0
+    && touches cull (value_of table edits a 2) (viewer_of edits player).1
+
+-- the node of an actor of this reach lists it for the player
+abbrev pub listed_as : Reach → Table → Edits → (player actor : ℕ) → Bool
+listed_as Always table edits player a = true
+listed_as Owner table edits player a = owns edits player a
+listed_as (Near cull) table edits player a =
+    owns edits player a || is_added edits a player || are_teamed edits player a
+    || touches_viewer cull table edits player a
+
+-- a living actor that the nodes list for the player
+abbrev pub is_listed : Table → Edits → (player actor : ℕ) → Bool
+is_listed table edits player a = lives edits a && listed_as (class_of table edits a).reach table edits player a
+
+-- how many actors the nodes list for the player
+abbrev pub listed_count : Table → Edits → (player : ℕ) → ℕ
+listed_count table edits player = count_by (is_listed table edits player) (actors_of edits)
+
+-- a connection: its player, and the past of its server's end
+abbrev pub Connection : Type 0
+Connection = ℕ × Past
+
+-- relevant to a connection that hasn't ended, and not quiet there
+abbrev pub is_awake_for : Table → Edits → (actor : ℕ) → Connection → Bool
+is_awake_for table edits a connection =
+    not (has_ended connection.1) && is_relevant table edits connection.0 a
+    && not (is_quiet connection.1 (seen_of table edits connection.0 a))
+
+-- of each such actor, counted once, the handles less one
+abbrev pub cell_count : Table → Edits → List Connection → ℕ
+cell_count table edits connections =
+    sum_by (λ a. handle_count (class_of table edits a) - 1)
+    (filter (λ a. list_any (is_awake_for table edits a) connections) (actors_of edits))

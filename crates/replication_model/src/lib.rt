@@ -1,0 +1,23 @@
+// The definitions of a connection and of a replay: what each end did, as one list that forgets
+// nothing, what both ends did over a script's lines, and what is promised of it.
+//
+// It has definitions, laws about them and no code. It stands on `protocol_model` and `script_model`.
+// `proofs/` has worked scripts whose whole transcripts the checker computes.
+#![tactic(auto)]
+
+ghost use Rattle.std.specs.Prelude.{◌≡◌, [], ◌∷◌, ℕ, List, true};
+ghost use Rattle.replication_model.specs.Feed.{End, Event, Past, has_ended};
+ghost use Rattle.replication_model.specs.Past.{past_of, out_of, after_event};
+ghost use Rattle.replication_model.specs.Fates.{last_sent, high_of};
+
+/// Before anything happened an end has sent nothing, and knows of no packet.
+pub fn before_all()
+    ensures sent { (end : End) → out_of end [] ≡ [] }
+    ensures number { last_sent [] ≡ 0 }
+    ensures high { high_of [] ≡ 0 }
+{}
+
+/// Nothing is added to the past of an end that has ended.
+pub fn ended_stays()
+    ensures { (end : End) (past : Past) (event : Event) → has_ended past ≡ true → after_event end past event ≡ past }
+{}
