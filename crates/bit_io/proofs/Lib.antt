@@ -1,0 +1,14 @@
+pub mod Digits
+pub mod Steps
+pub mod EightBytes
+pub mod Reading
+pub mod Widths
+pub mod Places
+pub mod IntReading
+pub mod PutSteps
+pub mod PackedReading
+pub mod PackedWriting
+pub mod PackedLaws
+pub mod IntLaws
+pub mod FixedLaws
+pub mod BytesLaws

@@ -1,0 +1,6 @@
+use Rattle.std.proofs.Common.{sym}
+use Rattle.bit_io.proofs.Digits.{length-digits}
+use Rattle.bit_io.proofs.bits.Bits.len.Goals as goal
+
+pub returns : goal.returns
+returns c = rw (← c.self.view_is) (sym (length-digits _ _))

@@ -1,0 +1,6 @@
+pub mod Packed
+pub mod Written
+pub mod Between
+pub mod Lent
+pub mod HeadOf
+pub mod IntWidth

@@ -1,0 +1,35 @@
+// Bits, bytes and whole numbers spelled in bits.
+//
+// A packet is a list of bits, the least significant bit of each byte first, after Unreal's
+// `FBitWriter` and `FBitReader`. A writer appends spellings to room that was taken at once, so no
+// `put` can fail. A reader lends parts of the bytes without copying them. The spellings are those
+// of `protocol_model`: numbers below a bound, packed numbers, and numbers of a fixed width.
+//
+// It stands on `protocol_model` for what a spelling is. It promises that each `put` appends exactly
+// the spelling, that each read takes exactly the spelling that begins the bits left, and that a
+// reader that refuses stays where it was. It knows no packet, no field's meaning and no input or
+// output.
+#![tactic(auto)]
+
+mod bits;
+mod blob;
+mod head;
+pub mod laws;
+mod lent;
+mod numbers;
+mod reader;
+mod relative;
+mod slice;
+mod words;
+mod writer;
+
+pub use bits::Bits;
+pub use blob::{Blob, Memory};
+pub use head::Head;
+pub use lent::{BitReader, BitSlice, Short};
+pub use protocol_model::{NumRefusal, Version};
+pub use relative::near;
+pub use writer::BitWriter;
+
+#[cfg(test)]
+mod tests;
