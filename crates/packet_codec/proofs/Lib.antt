@@ -1,0 +1,14 @@
+pub mod Numbers
+pub mod ReadBack
+pub mod PacketBack
+pub mod Content
+pub mod PacketLaws
+pub mod Lengths
+pub mod Puts
+pub mod Encoded
+pub mod Loops
+pub mod Stopping
+pub mod FieldsSpelled
+pub mod BunchSpelled
+pub mod PacketSpelled
+pub mod BytesSpelled

@@ -1,0 +1,77 @@
+// How many bits the spellings take.
+ghost use Rattle.std.specs.Prelude.{◌≡◌, ◌<◌, ◌^◌, ℕ, Bool, IsTrue, length};
+ghost use Rattle.protocol_model.specs.Packet.{rec_bits, Sends, is_bunch, channel_bits, channel_limit};
+ghost use Rattle.packet_codec.specs.Values.{bunch_of};
+ghost use Rattle.packet_codec.specs.Parts.{control_bits, numbered_bits};
+
+use crate::packet::Bunch;
+use protocol_model::{Part, Version};
+
+/// The bits of the flags after the channel.
+const STANDING_BITS: usize = 3;
+
+/// The bits of a payload's length.
+const SIZE_BITS: usize = 13;
+
+/// How many bits the entry takes that is this bunch, with the bit before it in version one.
+///
+/// The bunch has a spelling in that version.
+pub fn bunch_bits(version: Version, b: &Bunch) -> usize
+    requires { IsTrue (is_bunch version (bunch_of b.now)) }
+    ensures { result ≡ length (rec_bits version (Sends (bunch_of b.now))) }
+{
+    let mark = match version {
+        Version::One => 1,
+        Version::Two => 0,
+    };
+    let header = control_width(b.opens, b.closes)
+        + channel_width(version, b.channel)
+        + STANDING_BITS
+        + numbered_width(b.reliable, b.part)
+        + SIZE_BITS;
+    mark + header + b.payload.len()
+}
+
+/// How many bits the flags before the channel take.
+#[tactic(auto, using(crate::proofs::Lengths::control_length))]
+fn control_width(opens: bool, closes: bool) -> usize
+    ensures width { (sleeps reliable : Bool) → result ≡ length (control_bits opens closes sleeps reliable) }
+    ensures most { result < 2 ^ 8 }
+{
+    let flags = if opens || closes { 5 } else { 3 };
+    if closes { flags + 1 } else { flags }
+}
+
+/// How many bits the numbers and the flags of a part take.
+#[tactic(auto, using(crate::proofs::Lengths::numbered_length))]
+fn numbered_width(reliable: bool, part: Part) -> usize
+    ensures width { (seq kind : ℕ) → result ≡ length (numbered_bits reliable seq part kind) }
+    ensures most { result < 2 ^ 8 }
+{
+    let numbers = if reliable { 13 } else { 0 };
+    if part == Part::Whole {
+        numbers
+    } else {
+        numbers + 2
+    }
+}
+
+/// How many bits a channel's index takes.
+fn channel_width(version: Version, channel: u16) -> usize
+    requires { channel < channel_limit version }
+    ensures width { result ≡ length (channel_bits version channel) }
+    ensures most { result < 2 ^ 8 }
+{
+    match version {
+        Version::One => { if channel % 8192 < 2048 { 14 } else { 13 } }
+        Version::Two => {
+            if channel < 128 {
+                8
+            } else if channel < 16384 {
+                16
+            } else {
+                24
+            }
+        }
+    }
+}
