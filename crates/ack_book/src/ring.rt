@@ -1,0 +1,44 @@
+// A ring that tells of each of the last packets whether it arrived.
+ghost use Rattle.std.specs.Prelude.{◌≡◌, ◌+◌, ◌-◌, ◌%◌, ◌^◌, ◌<◌, ◌≤◌, ◌==◌, ℕ, length, true, false, slice_index_or};
+ghost use Rattle.ack_book.specs.History.{bit_in};
+
+use crate::KEPT;
+use crate::history::is_set;
+
+/// Marks the numbers above `from` and below `to` as lost, and `to` as arrived, each at its place.
+pub fn mark_arrived(ring: &mut Vec<bool>, from: u64, to: u64)
+    requires below { from < to }
+    requires len { length ring.old.items ≡ KEPT }
+    ensures len { length ring.new.items ≡ KEPT }
+    ensures arrived { slice_index_or ring.new.items (to % KEPT) false ≡ true }
+    ensures lost { (n : ℕ) → from < n → n < to → to < n + KEPT
+        → slice_index_or ring.new.items (n % KEPT) false ≡ false }
+    ensures kept { (n : ℕ) → n ≤ from → to < n + KEPT
+        → slice_index_or ring.new.items (n % KEPT) false
+        ≡ slice_index_or ring.old.items (n % KEPT) false }
+{
+    for number in from + 1..to {
+        ring[(number % KEPT) as usize] = false;
+    }
+    ring[(to % KEPT) as usize] = true;
+}
+
+/// Marks each number above `from`, up to `to`, by the bit of the history that stands for it, where
+/// bit `first` stands for `to` and each further one for the number below.
+pub fn mark_named(ring: &mut Vec<bool>, words: &[u32; 8], first: u64, from: u64, to: u64)
+    requires below { from < to }
+    requires most { to < 2 ^ 62 }
+    requires first { first < 256 }
+    requires len { length ring.old.items ≡ KEPT }
+    ensures len { length ring.new.items ≡ KEPT }
+    ensures named { (n : ℕ) → from < n → n ≤ to → to < n + KEPT
+        → slice_index_or ring.new.items (n % KEPT) false
+        ≡ (bit_in words.now (first + (to - n)) == 1) }
+    ensures kept { (n : ℕ) → n ≤ from → to < n + KEPT
+        → slice_index_or ring.new.items (n % KEPT) false
+        ≡ slice_index_or ring.old.items (n % KEPT) false }
+{
+    for number in from + 1..to + 1 {
+        ring[(number % KEPT) as usize] = is_set(words, first + (to - number));
+    }
+}
