@@ -1,0 +1,13 @@
+pub mod Digits
+pub mod Pieces
+pub mod Judged
+pub mod Ranges
+pub mod FirstPath
+pub mod Words
+pub mod Players
+pub mod Pawns
+pub mod Health
+pub mod Scripts
+pub mod Left
+pub mod HexText
+pub mod Copies
