@@ -1,0 +1,9 @@
+pub mod World
+pub mod Lines
+pub mod Keep
+pub mod Packets
+pub mod Squares
+pub mod Taking
+pub mod Steps
+pub mod Follows
+pub mod ReadLines

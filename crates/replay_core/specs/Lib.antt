@@ -1,0 +1,3 @@
+pub mod FirstPath
+pub mod Kept
+pub mod Turns
