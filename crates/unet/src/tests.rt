@@ -1,0 +1,122 @@
+// Whole runs over folders and sinks in memory.
+use crate::run::run;
+use net_core::{Entry, MemFiles, MemSink};
+use std::alloc::{AllocError, Global};
+use std::test::Fail;
+
+const FIRST: &str = "join 1 8000\nspawn Pawn 10 -3\nset 1 hp 75\ntick\ndown 1 1\ndump 1\n";
+
+const FIRST_TRANSCRIPT: &str =
+    "joined 1\nactor 1\nsent 1 1 0180190024009d04020300e228acad4cc180800abb732350105000000020e8ffffff3780b0c480030000000040\ndown 1 1 taken\ncopies 1 1\ncopy 1 1 Pawn open x=10 y=-3 role=0 hp=75 ammo=0 team=0 aim=0\n";
+
+const NINE_TICKS: &str =
+    "join 1 8000\nspawn Pawn 0 0\ntick\ntick\ntick\ntick\ntick\ntick\ntick\ntick\ntick\ndown 1 2\ndown 1 1\ndown 1 3\ndump 1";
+
+const NINE_TICKS_TRANSCRIPT: &str =
+    "joined 1\nactor 1\nsent 1 1 0180190024009d04020300e228acad4cc180800abb73235010000000002000000000308040c680030000000040\nsent 1 2 0240\ndown 1 2 taken\ndown 1 1 old\ndown 1 3 absent\ncopies 1 0\n";
+
+/// The words of a run.
+fn words_of(alloc: Global, texts: &[&str]) -> Result<Vec<String>, AllocError> {
+    let mut words = Vec::new(alloc);
+    for text in texts {
+        words.push(String::from_str(alloc, text)?)?;
+    }
+    Ok(words)
+}
+
+/// Runs `replay - S` where S is this script, with these calls of the files and of the sink failing.
+fn replayed(
+    alloc: Global,
+    script: &str,
+    failing_reads: &[u64],
+    failing_writes: &[u64],
+    longest: usize,
+) -> Result<(u8, Vec<u8>), Fail> {
+    let words = words_of(alloc, &["replay", "-", "S"])?;
+    let mut entries = Vec::new(alloc);
+    entries.push(Entry::copied(alloc, "S", script.as_bytes())?)?;
+    let mut files = MemFiles::new(alloc, entries, failing_reads.to_vec(alloc)?);
+    let mut out = MemSink::with_limit(alloc, failing_writes.to_vec(alloc)?, longest.max(1));
+    let status = run(alloc, &words, &mut files, &mut out);
+    Ok((status, out.into_vec()))
+}
+
+#[test]
+fn scripts_have_their_transcripts(rt: HostRuntime) -> Result<(), Fail> {
+    let alloc = rt.alloc();
+    for (script, status, text) in [
+        (FIRST, 0, FIRST_TRANSCRIPT),
+        (NINE_TICKS, 0, NINE_TICKS_TRANSCRIPT),
+        ("", 0, ""),
+        ("# nothing\n\n", 0, ""),
+        (
+            "join 1 8000\nset 1 hp 3\n",
+            5,
+            "unet: script refused at line 2: Unbuilt\n",
+        ),
+        (
+            "join 1 8000\njoin 1 8000\n",
+            5,
+            "unet: script refused at line 2: Unbuilt\n",
+        ),
+        (
+            "tick\nctick 1\n",
+            5,
+            "unet: script refused at line 2: Unbuilt\n",
+        ),
+        ("tick\r\n", 5, "unet: script refused at line 1: Unbuilt\n"),
+    ] {
+        for longest in [usize::MAX, 1] {
+            let (answer, written) = replayed(alloc, script, &[], &[], longest)?;
+            assert_eq!(rt; answer, status, "{script}");
+            assert_eq!(rt; written.as_slice(), text.as_bytes(), "{script}");
+        }
+    }
+    Ok(())
+}
+
+#[test]
+fn words_and_files_are_looked_at_first(rt: HostRuntime) -> Result<(), Fail> {
+    let alloc = rt.alloc();
+    for (texts, status, text) in [
+        (&["replay", "-"][..], 2, "unet: words not understood\n"),
+        (&[][..], 2, "unet: words not understood\n"),
+        (
+            &["replay", "-", "-x"][..],
+            2,
+            "unet: words not understood\n",
+        ),
+        (&["replay", "-", ""][..], 2, "unet: words not understood\n"),
+        (&["replay", "T", "S"][..], 2, "unet: words not understood\n"),
+        (&["--help"][..], 2, "unet: words not understood\n"),
+        (&["replay", "-", "S"][..], 3, "unet: no file S\n"),
+    ] {
+        let words = words_of(alloc, texts)?;
+        let mut files = MemFiles::new(alloc, Vec::new(alloc), Vec::new(alloc));
+        let mut out = MemSink::new(alloc, Vec::new(alloc));
+        let answer = run(alloc, &words, &mut files, &mut out);
+        assert_eq!(rt; answer, status);
+        assert_eq!(rt; out.as_slice(), text.as_bytes());
+    }
+    Ok(())
+}
+
+#[test]
+fn faults_end_a_run_early(rt: HostRuntime) -> Result<(), Fail> {
+    let alloc = rt.alloc();
+    let (status, written) = replayed(alloc, FIRST, &[1], &[], usize::MAX)?;
+    assert_eq!(rt; status, 6);
+    assert!(rt; written.is_empty());
+    for failing in 1..=6 {
+        let (status, written) = replayed(alloc, FIRST, &[], &[failing], usize::MAX)?;
+        let whole = FIRST_TRANSCRIPT.as_bytes();
+        if status == 0 {
+            assert_eq!(rt; written.as_slice(), whole);
+        } else {
+            assert_eq!(rt; status, 6);
+            assert!(rt; written.len() < whole.len());
+            assert!(rt; whole.starts_with(written.as_slice()));
+        }
+    }
+    Ok(())
+}
