@@ -1,0 +1,5 @@
+pub mod Signed
+pub mod Lengths
+pub mod Fitting
+pub mod Back
+pub mod Spelled
