@@ -1,0 +1,6 @@
+pub mod Lent
+pub mod JsonText
+pub mod Pieces
+pub mod Digits
+pub mod Behind
+pub mod Paths

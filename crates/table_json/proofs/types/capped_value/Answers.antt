@@ -1,0 +1,15 @@
+use Rattle.std.proofs.Common.{◌≡◌, ◌+◌, ◌-◌, ◌*◌, min, get_or, drop, arith, ◌∙◌, ap}
+use Rattle.script_model.specs.Script.{digits_value}
+use Rattle.table_json.proofs.Digits.{capped_step}
+use Rattle.table_json.proofs.types.capped_value.Goals as goal
+
+pub loop-digit-preserved : goal.loop-digit-preserved
+loop-digit-preserved c =
+    let text = c.args.text.now in
+    let i = c.loop-digit.digit-index in
+    let v = c.loop-digit.value in
+    let e : c.min-value.result ≡ min 65536 (10 * v + (get_or text i 0 - 48)) = cc in (
+      omega (arith, e),
+      ap (λ n. min 65536 (digits_value n (drop (i + 1) text))) e
+          ∙ capped_step 65536 v i text (omega arith) ∙ c.loop-digit.invariant.1,
+    )

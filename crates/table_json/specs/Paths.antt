@@ -1,0 +1,16 @@
+-- Paths, piece after piece.
+use Rattle.std.specs.Prelude.{ℕ, List, [], length, ◌&&◌, nat_le, Option, Some, None}
+use Rattle.std.specs.Bool.{then_some}
+use Rattle.std.specs.Borrow.{Bor}
+use Rattle.std.specs.List.{list_all}
+use Rattle.script_model.specs.Script.{pieces}
+use Rattle.table_model.specs.Words.{is_name}
+
+-- the pieces of the text after a `/`; none where there was no `/`
+abbrev pub pieces_after : Option (Bor (List ℕ)) → List (List ℕ)
+pieces_after None = []
+pieces_after (Some rest) = pieces 47 rest.now
+
+-- the pieces, where they are 1 to 8 names
+abbrev pub path_in : List (List ℕ) → Option (List (List ℕ))
+path_in names = then_some (nat_le 1 (length names) && nat_le (length names) 8 && list_all is_name names) names
