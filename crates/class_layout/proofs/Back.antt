@@ -21,15 +21,18 @@ below n max h = grind (arith, nat_tests)
 pub small : (count : ℕ) → nat_lt count (2 ^ 16) ≡ true → count ≤ 2 ^ 32
 small count h = let k : count < 2 ^ 16 = below count (2 ^ 16) h in omega arith
 
-fixed-back : (w : ℕ) (v : ℤ) (rest : List Bool) → Model.is_below (2 ^ w) v ≡ true → as_value (λ n. pos n) (or_short (leading_fixed w (fixed_bits w (natural v) ++ rest))) ≡ Ok (v, rest)
+fixed-back : (w : ℕ) (v : ℤ) (rest : List Bool) → Model.is_below (2 ^ w) v ≡ true
+    → as_value (λ n. pos n) (or_short (leading_fixed w (fixed_bits w (natural v) ++ rest))) ≡ Ok (v, rest)
 fixed-back w (pos n) rest h = rw (leading_fixed-append w n rest (below n (2 ^ w) h)) refl
 fixed-back w (negsuc n) rest h = absurd (cc)
 
-packed-back : (v : ℤ) (rest : List Bool) → Model.is_below (2 ^ 32) v ≡ true → as_value (λ n. pos n) (leading_packed (packed_bits (natural v) ++ rest)) ≡ Ok (v, rest)
+packed-back : (v : ℤ) (rest : List Bool) → Model.is_below (2 ^ 32) v ≡ true
+    → as_value (λ n. pos n) (leading_packed (packed_bits (natural v) ++ rest)) ≡ Ok (v, rest)
 packed-back (pos n) rest h = rw (packed-read n rest (below n (2 ^ 32) h)) refl
 packed-back (negsuc n) rest h = absurd (cc)
 
-int-back : (max : ℕ) (v : ℤ) (rest : List Bool) → max ≤ 2 ^ 32 → Model.is_below max v ≡ true → as_value (λ n. pos n) (or_short (leading_int max (int_bits max (natural v) ++ rest))) ≡ Ok (v, rest)
+int-back : (max : ℕ) (v : ℤ) (rest : List Bool) → max ≤ 2 ^ 32 → Model.is_below max v ≡ true
+    → as_value (λ n. pos n) (or_short (leading_int max (int_bits max (natural v) ++ rest))) ≡ Ok (v, rest)
 int-back max (pos n) rest m h = rw (int-read max n rest (below n max h) m) refl
 int-back max (negsuc n) rest m h = absurd (cc)
 
@@ -41,13 +44,26 @@ fits_long : (v : ℤ) → Model.is_within (2 ^ 63) v ≡ true → FitsSigned w64
 fits_long (pos n) h = let k : n < 2 ^ 63 = below n (2 ^ 63) h in omega (arith, ints)
 fits_long (negsuc n) h = let k : n < 2 ^ 63 = below n (2 ^ 63) h in omega (arith, ints)
 
-word-back : (v : ℤ) (rest : List Bool) → FitsSigned w32 v → as_value (cast_signed w32) (or_short (leading_fixed 32 (signed_bits 32 v ++ rest))) ≡ Ok (v, rest)
-word-back v rest f = rw (signed_word v f, leading_fixed-append 32 (cast_unsigned w32 v) rest (below_word v f), to_z-of_z w32 v f) refl
+word-back : (v : ℤ) (rest : List Bool) → FitsSigned w32 v → as_value (cast_signed w32)
+    (or_short (leading_fixed 32 (signed_bits 32 v ++ rest))) ≡ Ok (v, rest)
+word-back v rest f = rw (
+  signed_word v f,
+  leading_fixed-append 32 (cast_unsigned w32 v) rest
+      (below_word v f),
+  to_z-of_z w32 v f,
+) refl
 
-long-back : (v : ℤ) (rest : List Bool) → FitsSigned w64 v → as_value (cast_signed w64) (or_short (leading_fixed 64 (signed_bits 64 v ++ rest))) ≡ Ok (v, rest)
-long-back v rest f = rw (signed_long v f, leading_fixed-append 64 (cast_unsigned w64 v) rest (below_long v f), to_z-of_z w64 v f) refl
+long-back : (v : ℤ) (rest : List Bool) → FitsSigned w64 v → as_value (cast_signed w64)
+    (or_short (leading_fixed 64 (signed_bits 64 v ++ rest))) ≡ Ok (v, rest)
+long-back v rest f = rw (
+  signed_long v f,
+  leading_fixed-append 64 (cast_unsigned w64 v) rest
+      (below_long v f),
+  to_z-of_z w64 v f,
+) refl
 
-pub value-back : (kind : Kind) (v : ℤ) (rest : List Bool) → is_kind kind ≡ true → Model.fits kind v ≡ true → leading_value kind (value_bits kind v ++ rest) ≡ Ok (v, rest)
+pub value-back : (kind : Kind) (v : ℤ) (rest : List Bool) → is_kind kind ≡ true → Model.fits kind v ≡ true
+    → leading_value kind (value_bits kind v ++ rest) ≡ Ok (v, rest)
 unfolding leading_value
 value-back Kind.Bool v rest k f = fixed-back 1 v rest f
 value-back Kind.U8 v rest k f = fixed-back 8 v rest f

@@ -45,21 +45,28 @@ other_count [] [] h = absurd (h refl)
 other_count [] (a ∷ args) h = refl
 other_count (k ∷ kinds) [] h = refl
 other_count (k ∷ kinds) (a ∷ args) h =
-    not_rest (arg_is_of k a) (Model.arg_fits k (arg_of a)) (args_are_of kinds args) (Model.args_fit kinds (map arg_of args))
+    not_rest (arg_is_of k a) (Model.arg_fits k (arg_of a)) (args_are_of kinds args)
+    (Model.args_fit kinds (map arg_of args))
     (other_count kinds args (λ e. h (ap (λ m. suc m) e)))
 
 pub one_fits : (kinds : List Kind) (args : List Arg) (i : ℕ) (k : Kind) (a : Arg) → i < length kinds → i < length args
-    → (arg_is_of (get_or kinds i k) (get_or args i a) && Model.arg_fits (get_or kinds i k) (arg_of (get_or args i a))) ≡ true
+    → (arg_is_of (get_or kinds i k) (get_or args i a) && Model.arg_fits (get_or kinds i k) (arg_of (get_or args i a)))
+    ≡ true
     → all_fit (drop i kinds) (drop i args) ≡ all_fit (drop (i + 1) kinds) (drop (i + 1) args)
 one_fits kinds args i k a h1 h2 h =
     rw (drop_more kinds i k h1, drop_more args i a h2)
-    (both (arg_is_of (get_or kinds i k) (get_or args i a)) (Model.arg_fits (get_or kinds i k) (arg_of (get_or args i a)))
-    (args_are_of (drop (i + 1) kinds) (drop (i + 1) args)) (Model.args_fit (drop (i + 1) kinds) (map arg_of (drop (i + 1) args))) h)
+    (both (arg_is_of (get_or kinds i k) (get_or args i a)) (Model.arg_fits (get_or kinds i k)
+    (arg_of (get_or args i a)))
+    (args_are_of (drop (i + 1) kinds) (drop (i + 1) args)) (Model.args_fit (drop (i + 1) kinds)
+    (map arg_of (drop (i + 1) args))) h)
 
 pub one_fails : (kinds : List Kind) (args : List Arg) (i : ℕ) (k : Kind) (a : Arg) → i < length kinds → i < length args
-    → (arg_is_of (get_or kinds i k) (get_or args i a) && Model.arg_fits (get_or kinds i k) (arg_of (get_or args i a))) ≡ false
+    → (arg_is_of (get_or kinds i k) (get_or args i a) && Model.arg_fits (get_or kinds i k) (arg_of (get_or args i a)))
+    ≡ false
     → all_fit (drop i kinds) (drop i args) ≡ false
 one_fails kinds args i k a h1 h2 h =
     rw (drop_more kinds i k h1, drop_more args i a h2)
-    (not_both (arg_is_of (get_or kinds i k) (get_or args i a)) (Model.arg_fits (get_or kinds i k) (arg_of (get_or args i a)))
-    (args_are_of (drop (i + 1) kinds) (drop (i + 1) args)) (Model.args_fit (drop (i + 1) kinds) (map arg_of (drop (i + 1) args))) h)
+    (not_both (arg_is_of (get_or kinds i k) (get_or args i a))
+    (Model.arg_fits (get_or kinds i k) (arg_of (get_or args i a)))
+    (args_are_of (drop (i + 1) kinds) (drop (i + 1) args)) (Model.args_fit (drop (i + 1) kinds)
+    (map arg_of (drop (i + 1) args))) h)

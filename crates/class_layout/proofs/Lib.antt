@@ -3,3 +3,15 @@ pub mod Lengths
 pub mod Fitting
 pub mod Back
 pub mod Spelled
+pub mod Finding
+pub mod Naming
+pub mod Segments
+pub mod Growing
+pub mod Answered
+pub mod PathSteps
+pub mod Each
+pub mod ArgKinds
+pub mod Parents
+pub mod ClassSteps
+pub mod SoFar
+pub mod Few

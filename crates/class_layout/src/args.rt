@@ -3,6 +3,7 @@ ghost use Rattle.std.specs.Prelude.{◌≡◌, ◌&&◌, ◌≤◌, map, drop, l
 ghost use Rattle.protocol_model.specs.Value as Model;
 ghost use Rattle.class_layout.specs.Values.{arg_is_of, arg_of, args_are_of};
 
+use crate::class::Call;
 use crate::value::{Value, fits};
 use bit_io::Blob;
 use protocol_model::Kind;
@@ -29,6 +30,13 @@ pub fn args_fit(kinds: &[Kind], args: &[Arg]) -> bool
         i += 1;
     }
     true
+}
+
+/// The arguments are ones of the call.
+pub fn check_args(call: &Call, args: &[Arg]) -> bool
+    ensures { result ≡ (args_are_of call.now.args args.now && Model.args_fit call.now.args (map arg_of args.now)) }
+{
+    args_fit(call.args.as_slice(), args)
 }
 
 /// The argument has the kind's tag and is one of its values.
