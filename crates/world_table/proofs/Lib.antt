@@ -1,0 +1,15 @@
+pub mod Numbers
+pub mod Lists
+pub mod Records
+pub mod Props
+pub mod Cells
+pub mod Asked
+pub mod Telling
+pub mod Changing
+pub mod Edits
+pub mod Seats
+pub mod Refusing
+pub mod Setting
+pub mod Spawning
+pub mod Answering
+pub mod Fitting

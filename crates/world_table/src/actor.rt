@@ -1,0 +1,165 @@
+// The records of actors, and the flat cells of their properties.
+ghost use Rattle.std.specs.Prelude.{◌≡◌, ◌<◌, ◌==◌, ℕ, ◌++◌, map, length, slice_get, slice_set, IsSome, IfSome, IsTrue, Some, OnOk, OnErr, if◌then◌else◌};
+ghost use Rattle.protocol_model.specs.declared.Kind.{Kind as KindSpec};
+ghost use Rattle.class_layout.specs.Values.{value_fits};
+ghost use Rattle.world_table.specs.Kept.{place_of, actor_at, living_at, place_in, cell_at, record_value, switch_at, first_cell, moved_look};
+ghost use Rattle.world_table.specs.declared.actor.Cell.{Cell as CellSpec};
+
+use crate::edit::Look;
+use class_layout::{Prop, Value};
+use net_core::{Guid, Handle, Memory};
+use protocol_model::Cond;
+
+/// What is kept of an actor: its cells are those from `first` on and below `past`, one a property of
+/// its class, for the handles from 4 on.
+#[derive(Clone, Copy, Debug, PartialEq, Eq)]
+pub(crate) struct Actor {
+    pub look: Look,
+    /// The team that it is given to, 0 for none.
+    pub given: u8,
+    pub first: usize,
+    pub past: usize,
+}
+
+/// What is kept of a property of an actor.
+#[derive(Clone, Copy, Debug, PartialEq, Eq)]
+pub(crate) struct Cell {
+    pub value: Value,
+    /// The property is a custom one, and its switch is on.
+    pub on: bool,
+}
+
+/// The place of an actor's record: n - 1 for guid 2n.
+fn place(actor: Guid) -> Option<usize>
+    ensures { result ≡ place_of actor }
+{
+    if actor.0 == 0 || actor.0 % 2 != 0 {
+        return None;
+    }
+    Some((actor.0 / 2 - 1) as usize)
+}
+
+/// The record of an actor, `None` exactly where it was never spawned.
+pub(crate) fn record_at(actors: &[Actor], actor: Guid) -> Option<Actor>
+    ensures { result ≡ actor_at actors.now actor }
+{
+    actors.get(place(actor)?).copied()
+}
+
+/// The record of an actor that lives.
+pub(crate) fn living(actors: &[Actor], actor: Guid) -> Option<Actor>
+    ensures { result ≡ living_at actors.now actor }
+{
+    match record_at(actors, actor) {
+        Some(record) if record.look.alive => Some(record),
+        _ => None,
+    }
+}
+
+/// Puts a record in the place of the one that the actor has.
+pub(crate) fn put_record(actors: &mut Vec<Actor>, actor: Guid, kept: Actor)
+    requires { IsSome (actor_at actors.old.items actor) }
+    ensures len { length actors.new.items ≡ length actors.old.items }
+    ensures each { (a : ℕ) → actor_at actors.new.items a
+        ≡ (if a == actor then Some kept else actor_at actors.old.items a) }
+{
+    if let Some(place) = place(actor) {
+        actors[place] = kept;
+    }
+}
+
+/// The place of the cell that an actor has for a property, `None` exactly where it has none.
+pub(crate) fn cell_place(kept: &Actor, prop: Handle) -> Option<usize>
+    ensures { result ≡ place_in kept.now prop }
+{
+    let count = kept.past.saturating_sub(kept.first);
+    let index = usize::from(prop.0.checked_sub(4)?);
+    if index < count {
+        Some(kept.first + index)
+    } else {
+        None
+    }
+}
+
+/// The cell that an actor has for a property.
+pub(crate) fn cell_for(cells: &[Cell], kept: &Actor, prop: Handle) -> Option<Cell>
+    ensures { result ≡ cell_at cells.now kept.now prop }
+{
+    cells.get(cell_place(kept, prop)?).copied()
+}
+
+/// The value that an actor has for a property, `None` exactly where it can't be set.
+pub(crate) fn value_for(cells: &[Cell], kept: &Actor, prop: Handle) -> Option<Value>
+    ensures value { result ≡ record_value cells.now kept.now prop }
+    ensures place { prop < 4 → IfSome result (λ v. IsTrue (value_fits KindSpec.I32 v)) }
+{
+    if prop.0 == 1 {
+        return Some(Value::I32(kept.look.x));
+    }
+    if prop.0 == 2 {
+        return Some(Value::I32(kept.look.y));
+    }
+    let cell = cell_for(cells, kept, prop)?;
+    Some(cell.value)
+}
+
+/// The switch that an actor has for a property, off where it has none.
+pub(crate) fn switch_for(actors: &[Actor], cells: &[Cell], actor: Guid, prop: Handle) -> bool
+    ensures { result ≡ switch_at actors.now cells.now actor prop }
+{
+    let Some(kept) = record_at(actors, actor) else {
+        return false;
+    };
+    match cell_for(cells, &kept, prop) {
+        Some(cell) => cell.on,
+        None => false,
+    }
+}
+
+/// How an actor stands once a value of x or y is set.
+pub(crate) fn moved(look: Look, prop: Handle, value: Value) -> Look
+    ensures { result ≡ moved_look look prop value }
+{
+    match value {
+        Value::I32(x) if prop.0 == 1 => Look { x, ..look },
+        Value::I32(y) if prop.0 == 2 => Look { y, ..look },
+        _ => look,
+    }
+}
+
+/// Puts a value into a cell.
+pub(crate) fn put_value(cells: &mut Vec<Cell>, place: usize, value: Value)
+    requires { place < length cells.old.items }
+    ensures { (cell : CellSpec) → slice_get cells.old.items place ≡ Some cell
+        → cells.new.items ≡ slice_set cells.old.items place (record cell { value = value }) }
+{
+    cells[place].value = value;
+}
+
+/// Puts a switch into a cell.
+pub(crate) fn put_switch(cells: &mut Vec<Cell>, place: usize, on: bool)
+    requires { place < length cells.old.items }
+    ensures { (cell : CellSpec) → slice_get cells.old.items place ≡ Some cell
+        → cells.new.items ≡ slice_set cells.old.items place (record cell { on = on }) }
+{
+    cells[place].on = on;
+}
+
+/// Appends a cell for each property. After `Memory` the cells are those from before.
+pub(crate) fn push_cells(cells: &mut Vec<Cell>, props: &[Prop]) -> Result<(), Memory>
+    ensures ok { OnOk result (cells.new.items ≡ cells.old.items ++ map first_cell props.now) }
+    ensures err { OnErr result (cells.new.items ≡ cells.old.items) }
+{
+    let first = cells.len();
+    for prop in props {
+        let cell = Cell {
+            value: prop.init,
+            on: prop.cond == Cond::Custom,
+        };
+        if cells.push(cell).is_err() {
+            cells.truncate(first);
+            return Err(Memory);
+        }
+    }
+    Ok(())
+}
