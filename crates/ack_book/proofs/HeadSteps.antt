@@ -14,8 +14,8 @@ use Rattle.protocol_model.specs.declared.Version.TheVariants.{One, Two}
 use Rattle.protocol_model.specs.Bits.{near}
 use Rattle.protocol_model.specs.Packet.{Head}
 use Rattle.protocol_model.specs.Search.{is_among, greatest_of, least_from}
-use Rattle.replication_model.specs.Feed.{Past, Took, Entry, Told, Delivered}
-use Rattle.replication_model.specs.Fates.{taken_of, top_of, moved_of, high_of, last_sent, top_when, named_numbers, number_above, history_of, history_word, word_count, head_of}
+use Rattle.connection_model.specs.Feed.{Past, Took, Entry, Told, Delivered}
+use Rattle.connection_model.specs.Fates.{taken_of, top_of, moved_of, high_of, last_sent, top_when, named_numbers, number_above, history_of, history_word, word_count, head_of}
 use Rattle.bit_io.specs.declared.head.Head.{Head as HeadValue}
 use Rattle.bit_io.specs.HeadOf.{head_of as head_told, IsHead}
 use Rattle.ack_book.specs.Answers.{names_unsent}

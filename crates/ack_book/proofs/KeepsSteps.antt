@@ -4,8 +4,8 @@ use Rattle.protocol_model.specs.declared.Version.{Version}
 use Rattle.protocol_model.specs.declared.Version.TheVariants.{One, Two}
 use Rattle.protocol_model.specs.Search.{is_among, greatest_of}
 use Rattle.protocol_model.specs.Sight.{Seen}
-use Rattle.replication_model.specs.Feed.{Past, Sent, Took, Ticked, Item, Entry, Acked, Delivered, deeds_since_tick}
-use Rattle.replication_model.specs.Fates.{taken_of, top_of, owed_of, moved_of, high_of, last_sent, top_when, sent_in}
+use Rattle.connection_model.specs.Feed.{Past, Sent, Took, Ticked, Item, Entry, Acked, Delivered, deeds_since_tick}
+use Rattle.connection_model.specs.Fates.{taken_of, top_of, owed_of, moved_of, high_of, last_sent, top_when, sent_in}
 use Rattle.protocol_model.specs.Bits.{near}
 use Rattle.std.specs.Int.{bit_at}
 use Rattle.std.specs.List.{filter_map, cons_option}

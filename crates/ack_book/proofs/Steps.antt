@@ -7,7 +7,7 @@ use Rattle.std.proofs.lemmas.Int.{ints}
 use Rattle.std.specs.Bool.{then_some}
 use Rattle.std.specs.List.{cons_option}
 use Rattle.circular_buffer.specs.Buffer.{Buffer, buffer, keep_last}
-use Rattle.replication_model.specs.Fates.{number_above}
+use Rattle.connection_model.specs.Fates.{number_above}
 use Rattle.protocol_model.specs.Search.{is_among, greatest_of}
 use Rattle.ack_book.proofs.Greatest.{among_above}
 

@@ -3,8 +3,8 @@ use Rattle.std.specs.Prelude.{ℕ, ℤ, pos, List, Bool, Result, Ok, Err, int_lt
 use Rattle.std.specs.List.{list_any}
 use Rattle.protocol_model.specs.Bits.{near}
 use Rattle.protocol_model.specs.Packet.{Head}
-use Rattle.replication_model.specs.Feed.{Past, Told}
-use Rattle.replication_model.specs.Fates.{high_of, last_sent, named_by}
+use Rattle.connection_model.specs.Feed.{Past, Told}
+use Rattle.connection_model.specs.Fates.{high_of, last_sent, named_by}
 use Rattle.ack_book.specs.declared.answer.Acked.{Acked}
 use Rattle.ack_book.specs.declared.answer.Acked.TheVariants.{Ignored, Moved}
 use Rattle.ack_book.specs.declared.answer.BadAck.{BadAck}

@@ -3,8 +3,8 @@ use Rattle.std.specs.Prelude.{◌≡◌, ℕ, ◌+◌, ◌-◌, ◌%◌, ◌<◌
 use Rattle.protocol_model.specs.declared.Version.{Version}
 use Rattle.protocol_model.specs.declared.Version.TheVariants.{Two}
 use Rattle.protocol_model.specs.Search.{is_among}
-use Rattle.replication_model.specs.Feed.{Past}
-use Rattle.replication_model.specs.Fates.{taken_of, top_of, owed_of, moved_of, high_of, last_sent, top_when}
+use Rattle.connection_model.specs.Feed.{Past}
+use Rattle.connection_model.specs.Fates.{taken_of, top_of, owed_of, moved_of, high_of, last_sent, top_when}
 use Rattle.ack_book.specs.Book.{Book}
 use Rattle.ack_book.specs.History.{bit_in}
 use Rattle.ack_book.specs.declared.TheConstants.{KEPT, UNRESOLVED_MAX}

@@ -1,8 +1,8 @@
 // The book of one end of a connection.
 ghost use Rattle.std.specs.Prelude.{◌≡◌, ◌+◌, ◌-◌, ◌^◌, ◌<◌, ◌≤◌, ◌↔◌, ◌∷◌, [], ℕ, List, IsOk, IsErr, IsTrue, IfOk, IfErr, OnOk, OnErr, slice_get, pos};
 ghost use Rattle.protocol_model.specs.declared.Version.{Version};
-ghost use Rattle.replication_model.specs.Feed.{Past, Deed, Item, Entry, Delivered};
-ghost use Rattle.replication_model.specs.Fates.{is_new, number_near, top_of, last_sent, high_of, fate_of, unresolved_count, owed_of, head_of};
+ghost use Rattle.connection_model.specs.Feed.{Past, Deed, Item, Entry, Delivered};
+ghost use Rattle.connection_model.specs.Fates.{is_new, number_near, top_of, last_sent, high_of, fate_of, unresolved_count, owed_of, head_of};
 ghost use Rattle.protocol_model.specs.Packet.{is_head};
 ghost use Rattle.protocol_model.specs.Sight.{Seen};
 ghost use Rattle.ack_book.specs.Keeps.{Keeps};

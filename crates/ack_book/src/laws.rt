@@ -4,7 +4,7 @@ ghost use Rattle.std.specs.Prelude.{ℕ, List, ◌∷◌};
 ghost use Rattle.protocol_model.specs.declared.Version.{Version};
 ghost use Rattle.protocol_model.specs.Packet.{Bunch};
 ghost use Rattle.protocol_model.specs.Payload.{Message};
-ghost use Rattle.replication_model.specs.Feed.{Past, Deed, Entry, Delivered, Ending};
+ghost use Rattle.connection_model.specs.Feed.{Past, Deed, Entry, Delivered, Ending};
 ghost use Rattle.ack_book.specs.Book.{Book};
 ghost use Rattle.ack_book.specs.Keeps.{Keeps};
 

@@ -2,7 +2,7 @@
 use Rattle.std.proofs.Common.{◌≡◌, sym, ◌∙◌}
 use Rattle.std.specs.Prelude.{Result, Ok, Err, IfOk, OnOk}
 use Rattle.table_model.specs.Checked.{Refusal}
-use Rattle.class_layout.specs.Told.{RefusedAs}
+use Rattle.class_layout.specs.Agreement.{RefusedAs}
 use Rattle.class_layout.specs.declared.refusal.TableRefusal.{TableRefusal}
 
 -- what holds of the value of an Ok gives what else holds of it

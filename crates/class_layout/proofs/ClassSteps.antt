@@ -16,7 +16,7 @@ use Rattle.table_model.proofs.Types.{are_path_names}
 use Rattle.class_layout.specs.Tables.{prop_of, call_of}
 use Rattle.class_layout.specs.declared.class.Prop.{Prop}
 use Rattle.class_layout.specs.declared.class.Call.{Call}
-use Rattle.class_layout.specs.Told.{BreaksAs, RefusedAs, refusal_at}
+use Rattle.class_layout.specs.Agreement.{BreaksAs, RefusedAs, refusal_at}
 use Rattle.class_layout.specs.declared.refusal.Fault.{Fault}
 use Rattle.class_layout.specs.declared.refusal.TableRefusal.{TableRefusal}
 

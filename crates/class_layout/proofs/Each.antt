@@ -6,7 +6,7 @@ use Rattle.table_model.specs.Checked.{each_after}
 use Rattle.class_layout.proofs.PathSteps.{and_parts}
 use Rattle.table_model.specs.declared.Place.{Place}
 use Rattle.table_model.specs.declared.TableWhy.{TableWhy}
-use Rattle.class_layout.specs.Told.{BreaksAs, RefusedAs, refusal_at}
+use Rattle.class_layout.specs.Agreement.{BreaksAs, RefusedAs, refusal_at}
 use Rattle.class_layout.specs.declared.refusal.Fault.{Fault}
 use Rattle.class_layout.specs.declared.refusal.Fault.TheVariants.{Broken, Memory}
 

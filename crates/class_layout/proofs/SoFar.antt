@@ -6,7 +6,7 @@ use Rattle.table_model.specs.Rules.{Entry, segments_of}
 use Rattle.table_model.specs.Grammar as Grammar
 use Rattle.class_layout.specs.Growing.{IsSoFar}
 use Rattle.class_layout.specs.Tables.{AreOf, Extends, are_tagged, class_of, entry_of, stand_within}
-use Rattle.class_layout.specs.Told.{RefusedAs}
+use Rattle.class_layout.specs.Agreement.{RefusedAs}
 use Rattle.class_layout.specs.declared.class.Class.{Class}
 use Rattle.class_layout.specs.declared.class.Segment.{Segment}
 use Rattle.class_layout.specs.declared.refusal.TableRefusal.{TableRefusal}

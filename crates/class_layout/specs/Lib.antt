@@ -1,6 +1,6 @@
 pub mod Values
 pub mod Reading
 pub mod Tables
-pub mod Told
+pub mod Agreement
 pub mod Headings
 pub mod Growing

@@ -9,7 +9,7 @@ ghost use Rattle.table_json.specs.Objects.{is_text, text_in};
 ghost use Rattle.protocol_model.specs.declared.Kind.{Kind as KindSpec};
 ghost use Rattle.table_model.specs.Checked.{each_after};
 ghost use Rattle.table_model.specs.declared.Place.TheVariants as Place;
-ghost use Rattle.class_layout.specs.Told.{Gives, Reads};
+ghost use Rattle.class_layout.specs.Agreement.{Gives, Reads};
 ghost use Rattle.class_layout.specs.Tables.{call_of};
 ghost use Rattle.class_layout.specs.declared.class.Call.{Call as CallSpec};
 

@@ -9,7 +9,7 @@ ghost use Rattle.table_model.specs.declared.Place.TheVariants as Place;
 ghost use Rattle.protocol_model.specs.BuiltIn.{built_in_table};
 ghost use Rattle.sha1.specs.Sha1.{sha1};
 ghost use Rattle.class_layout.specs.Tables.{IsLayout, entries_in, place_of_path, table_in};
-ghost use Rattle.class_layout.specs.Told.{Reads};
+ghost use Rattle.class_layout.specs.Agreement.{Reads};
 
 use crate::class::{Class, ClassList, Segment, SegmentList};
 use crate::read::read_classes;

@@ -2,7 +2,7 @@
 ghost use Rattle.std.specs.Prelude.{◌≡◌, ◌<◌, ◌≤◌, ◌^◌, List, true, false, length, map, option_map, unsigned_abs, IfOk, IfErr};
 ghost use Rattle.serde_json.specs.View.{view};
 ghost use Rattle.table_model.specs.Rules as Rules;
-ghost use Rattle.class_layout.specs.Told.{Gives};
+ghost use Rattle.class_layout.specs.Agreement.{Gives};
 ghost use Rattle.class_layout.specs.Tables.{entry_of};
 ghost use Rattle.class_layout.specs.Headings.{HasFew, heading_of};
 ghost use Rattle.class_layout.specs.declared.class.Segment.{Segment as SegmentSpec};

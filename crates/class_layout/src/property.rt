@@ -8,7 +8,7 @@ ghost use Rattle.protocol_model.specs.Value as Model;
 ghost use Rattle.table_model.specs.Checked.{each_after};
 ghost use Rattle.table_model.specs.Rules as Rules;
 ghost use Rattle.table_model.specs.declared.Place.TheVariants as Place;
-ghost use Rattle.class_layout.specs.Told.{Gives, Reads};
+ghost use Rattle.class_layout.specs.Agreement.{Gives, Reads};
 ghost use Rattle.class_layout.specs.Tables.{are_tagged, prop_of};
 ghost use Rattle.class_layout.specs.Values.{is_of, whole_of};
 ghost use Rattle.class_layout.specs.declared.class.Prop.{Prop as PropSpec};

@@ -12,7 +12,7 @@ ghost use Rattle.class_layout.specs.declared.class.Call.{Call as CallSpec};
 ghost use Rattle.class_layout.specs.declared.class.Class.{Class as ClassSpec};
 ghost use Rattle.class_layout.specs.declared.class.Prop.{Prop as PropSpec};
 ghost use Rattle.class_layout.specs.declared.class.Segment.{Segment as SegmentSpec};
-ghost use Rattle.class_layout.specs.Told.{Reads};
+ghost use Rattle.class_layout.specs.Agreement.{Reads};
 
 use crate::call::add_calls;
 use crate::class::{CallList, Class, ClassList, PropList, SegmentList};

@@ -1,6 +1,6 @@
 // Why a class table is refused.
 ghost use Rattle.std.specs.Prelude.{◌≡◌, true, false, OnOk, IfErr};
-ghost use Rattle.class_layout.specs.Told.{refusal_at};
+ghost use Rattle.class_layout.specs.Agreement.{refusal_at};
 
 use net_core::Memory as NoMemory;
 use table_model::{Place, TableWhy};

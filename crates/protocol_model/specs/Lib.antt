@@ -1,4 +1,5 @@
 pub mod Search
+pub mod Limits
 pub mod Bits
 pub mod Numbers
 pub mod Reading
@@ -10,6 +11,4 @@ pub mod PacketReading
 pub mod Payload
 pub mod World
 pub mod Sight
-pub mod Nodes
-pub mod Changes
 pub mod Side

@@ -1,6 +1,7 @@
 -- Packets in both versions, and the one spelling of each.
 use Rattle.std.specs.Prelude.{◌≡◌, ℕ, ◌-◌, ◌^◌, ◌≤◌, ◌==◌, List, [], ◌∷◌, ◌++◌, length, Bool, true, false, not, ◌&&◌, ◌||◌, nat_lt, nat_le, IsTrue, if◌then◌else◌}
 use Rattle.std.specs.List.{flat_map, list_all}
+use Rattle.protocol_model.specs.Limits.{bunch_bits_limit, channels_one, channels_two, head_words, packet_bytes, packet_modulus, sequence_modulus}
 use Rattle.protocol_model.specs.Bits.{int_bits, packed_bits, fixed_bits, bytes_of}
 use Rattle.protocol_model.specs.declared.Version.{Version}
 use Rattle.protocol_model.specs.declared.Version.TheVariants.{One, Two}
@@ -73,7 +74,7 @@ field_if false bits = []
 
 -- a channel's index
 abbrev pub channel_bits : Version → ℕ → List Bool
-channel_bits One channel = int_bits 10240 channel
+channel_bits One channel = int_bits channels_one channel
 channel_bits Two channel = packed_bits channel
 
 -- a header in the order of its fields, and the payload
@@ -88,24 +89,24 @@ bunch_bits version b =
     ++ flag b.exports
     ++ flag false
     ++ flag (is_partial b.part)
-    ++ field_if b.reliable (int_bits 1024 b.seq)
+    ++ field_if b.reliable (int_bits sequence_modulus b.seq)
     ++ field_if (is_partial b.part) (flag (is_initial b.part) ++ flag (is_final b.part))
     ++ field_if b.reliable (int_bits 8 b.kind)
-    ++ int_bits 8192 (length b.payload)
+    ++ int_bits bunch_bits_limit (length b.payload)
     ++ b.payload
 
 -- an entry; a bit before it tells the two apart in version One, and version Two has bunches alone
 abbrev pub rec_bits : Version → Rec → List Bool
-rec_bits One (Ack number) = flag true ++ int_bits 16384 number
+rec_bits One (Ack number) = flag true ++ int_bits packet_modulus number
 rec_bits One (Sends bunch) = flag false ++ bunch_bits One bunch
 rec_bits Two (Ack number) = []
 rec_bits Two (Sends bunch) = bunch_bits Two bunch
 
 -- what stands before the entries
 abbrev pub start_bits : Version → ℕ → Head → List Bool
-start_bits One number head = int_bits 16384 number
+start_bits One number head = int_bits packet_modulus number
 start_bits Two number head =
-    int_bits 16384 number ++ int_bits 16384 head.top ++ int_bits 8 (length head.words - 1)
+    int_bits packet_modulus number ++ int_bits packet_modulus head.top ++ int_bits 8 (length head.words - 1)
     ++ flat_map (λ word. fixed_bits 32 word) head.words
 
 -- the content, one 1 bit, and 0 bits to the byte's end
@@ -121,8 +122,8 @@ implies a b = not a || b
 
 -- indices are below this
 abbrev pub channel_limit : Version → ℕ
-channel_limit One = 10240
-channel_limit Two = 2 ^ 15
+channel_limit One = channels_one
+channel_limit Two = channels_two
 
 -- the rules of the table hold of the header
 abbrev pub is_bunch : Version → Bunch → Bool
@@ -133,12 +134,12 @@ is_bunch version b =
     && nat_lt b.channel (channel_limit version)
     && implies b.exports b.opens
     && implies (is_partial b.part) b.reliable
-    && (if b.reliable then nat_lt b.seq 1024 && (b.kind == 1 || b.kind == 2) else b.seq == 0 && b.kind == 0)
-    && nat_lt (length b.payload) 8192
+    && (if b.reliable then nat_lt b.seq sequence_modulus && (b.kind == 1 || b.kind == 2) else b.seq == 0 && b.kind == 0)
+    && nat_lt (length b.payload) bunch_bits_limit
 
 -- the entry has a spelling
 abbrev pub is_rec : Version → Rec → Bool
-is_rec One (Ack number) = nat_lt number 16384
+is_rec One (Ack number) = nat_lt number packet_modulus
 is_rec Two (Ack number) = false
 is_rec version (Sends bunch) = is_bunch version bunch
 
@@ -146,13 +147,13 @@ is_rec version (Sends bunch) = is_bunch version bunch
 abbrev pub is_head : Version → Head → Bool
 is_head One head = head.top == 0 && length head.words == 0
 is_head Two head =
-    nat_lt head.top 16384 && nat_le 1 (length head.words) && nat_le (length head.words) 8
+    nat_lt head.top packet_modulus && nat_le 1 (length head.words) && nat_le (length head.words) head_words
     && list_all (λ word. nat_lt word (2 ^ 32)) head.words
 
 -- the bytes spell the packet
 pub record Spells (version : Version) (p : Packet) (bytes : List ℕ) : Type 0 where
-  pub number : IsTrue (nat_lt p.number 16384)
+  pub number : IsTrue (nat_lt p.number packet_modulus)
   pub head : IsTrue (is_head version p.head)
   pub recs : IsTrue (list_all (λ rec. is_rec version rec) p.recs)
   pub spelling : bytes ≡ spelling_of version p
-  pub size : length bytes ≤ 1024
+  pub size : length bytes ≤ packet_bytes

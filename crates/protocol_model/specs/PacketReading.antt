@@ -1,5 +1,6 @@
 -- Reading a packet: the rules of its fields from left to right, and the first that is broken.
 use Rattle.std.specs.Prelude.{◌≡◌, ℕ, zero, suc, ◌+◌, ◌-◌, ◌*◌, ◌^◌, ◌==◌, List, [], ◌∷◌, length, reverse, Bool, true, false, not, ◌&&◌, ◌||◌, nat_lt, Result, Ok, Err, if◌then◌else◌, slice_index_or}
+use Rattle.protocol_model.specs.Limits.{bunch_bits_limit, channels_one, channels_two, packet_bytes, packet_modulus, sequence_modulus}
 use Rattle.protocol_model.specs.Bits.{bits_of}
 use Rattle.protocol_model.specs.Reading.{Fault, Broken, Reading, ◌>>=◌, give, must, left, bit_at, bits_at, fixed_at, int_at, packed_at, place_of}
 use Rattle.protocol_model.specs.declared.Version.{Version}
@@ -25,8 +26,8 @@ why_unreliable opens = if opens then OpenUnreliable else CloseUnreliable
 
 -- an index; in version Two one of 32,768 or more is too wide
 abbrev pub channel_at : Version → Reading Why ℕ
-channel_at One = int_at 10240
-channel_at Two = must (packed_at Padded) (λ c. nat_lt c (2 ^ 15)) Wide
+channel_at One = int_at channels_one
+channel_at Two = must (packed_at Padded) (λ c. nat_lt c channels_two) Wide
 
 -- the part by its three flags
 abbrev pub part_of : (partial initial final : Bool) → Part
@@ -49,11 +50,11 @@ bunch_at version = do
   exports ← flag_at (λ exports. implies exports opens) ExportsUnopened
   _ ← flag_at not Reserved
   partial ← flag_at (λ partial. implies partial reliable) PartialUnreliable
-  seq ← read_if reliable (int_at 1024) 0
+  seq ← read_if reliable (int_at sequence_modulus) 0
   initial ← read_if partial bit_at false
   final ← read_if partial bit_at false
   kind ← read_if reliable (must (int_at 8) (λ kind. kind == 1 || kind == 2) BadKind) 0
-  size ← int_at 8192
+  size ← int_at bunch_bits_limit
   payload ← bits_at size
   give (record {
     opens = opens;
@@ -77,7 +78,7 @@ sends_at version = do
 -- an entry that is an acknowledgement
 abbrev pub ack_at : Reading Why Rec
 ack_at = do
-  number ← int_at 16384
+  number ← int_at packet_modulus
   give (Ack number)
 
 -- an entry
@@ -99,7 +100,7 @@ words_at (suc count) = do
 abbrev pub head_at : Version → Reading Why Head
 head_at One = give (record { top = 0; words = [] })
 head_at Two = do
-  top ← int_at 16384
+  top ← int_at packet_modulus
   count ← int_at 8
   words ← words_at (count + 1)
   give (record { top = top; words = words })
@@ -117,7 +118,7 @@ recs_at version (suc most) = do
 -- a packet's content
 abbrev pub packet_at : Version → Reading Why Packet
 packet_at version = do
-  number ← int_at 16384
+  number ← int_at packet_modulus
   head ← head_at version
   bits ← left
   recs ← recs_at version bits
@@ -151,7 +152,7 @@ content_read version content =
 abbrev pub packet_of : Version → List ℕ → Result Packet Refusal
 packet_of version bytes =
     if length bytes == 0 then Err (0, Empty)
-    else if nat_lt 1024 (length bytes) then Err (8192, TooLong)
+    else if nat_lt packet_bytes (length bytes) then Err (8 * packet_bytes, TooLong)
     else if slice_index_or bytes (length bytes - 1) 0 == 0 then Err (8 * (length bytes - 1), NoEnd)
     else content_read version (content_of bytes)
 

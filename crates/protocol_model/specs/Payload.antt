@@ -1,6 +1,7 @@
 -- What a payload says, its one spelling, and how it is cut into parts.
-use Rattle.std.specs.Prelude.{ℕ, ◌+◌, ◌*◌, ◌/◌, ◌==◌, List, [], ◌∷◌, ◌++◌, length, take, drop, Bool, true, false, nat_le, unwrap_or, option_map, if◌then◌else◌, ℤ, pos, negsuc}
+use Rattle.std.specs.Prelude.{ℕ, ◌+◌, ◌-◌, ◌*◌, ◌/◌, ◌==◌, List, [], ◌∷◌, ◌++◌, length, take, drop, Bool, true, false, nat_le, unwrap_or, option_map, if◌then◌else◌, ℤ, pos, negsuc}
 use Rattle.std.specs.List.{flat_map}
+use Rattle.protocol_model.specs.Limits.{part_bits}
 use Rattle.protocol_model.specs.declared.Kind.{Kind}
 use Rattle.protocol_model.specs.declared.Kind.TheVariants.{U8, I32, U32, I64, Packed, Guid, Enum, Bytes}
 use Rattle.protocol_model.specs.Value.{Arg, Scalar, Octets, Prop, Call, Segment, Class, Pair, class_guid, prop_at}
@@ -96,7 +97,7 @@ message_bits (Gone actor) = packed_bits 1 ++ packed_bits actor
 
 -- a payload of at most 7,000 bits is whole, a longer one has parts of 7,000 bits and a last one of 1 to 7,000
 abbrev pub part_count : ℕ → ℕ
-part_count bits = if nat_le bits 7000 then 1 else (bits + 6999) / 7000
+part_count bits = if nat_le bits part_bits then 1 else (bits + (part_bits - 1)) / part_bits
 
 -- the part that is the i-th of so many, counted from 0
 abbrev pub part_at : (count i : ℕ) → Part
@@ -105,7 +106,7 @@ part_at count i =
 
 -- the bits of the i-th part, counted from 0
 abbrev pub piece_at : List Bool → ℕ → List Bool
-piece_at bits i = take 7000 (drop (7000 * i) bits)
+piece_at bits i = take part_bits (drop (part_bits * i) bits)
 
 -- how many bunches a message takes
 abbrev pub parts_of : Message → ℕ

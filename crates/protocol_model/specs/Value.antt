@@ -158,9 +158,9 @@ pub record Pair : Type 0 where
   pub value : ℤ
 
 -- the value of a handle in a list of values
-abbrev pub value_at : List Pair → ℕ → Option ℤ
-value_at [] h = None
-value_at (p ∷ pairs) h = if p.handle == h then Some p.value else value_at pairs h
+abbrev pub value_among : List Pair → ℕ → Option ℤ
+value_among [] h = None
+value_among (p ∷ pairs) h = if p.handle == h then Some p.value else value_among pairs h
 
 -- a handle's value before anything was said of it
 abbrev pub initial_value : Class → ℕ → ℤ

@@ -7,6 +7,7 @@ use Rattle.protocol_model.specs.declared.Cond.TheVariants.{Custom}
 use Rattle.protocol_model.specs.Value.{Table, Class, Prop, fits, prop_at, initial_value}
 use Rattle.protocol_model.specs.declared.Reach.{Reach}
 use Rattle.std.specs.Bool.{then_some}
+use Rattle.protocol_model.specs.Limits.{player_limit, spawn_limit, team_limit}
 use Rattle.protocol_model.specs.Search.{newest_of}
 
 -- actors are named by guid, players by number; player 0 is no owner, team 0 no team
@@ -206,7 +207,7 @@ names_living edits (Some a) = lives edits a
 
 -- a player's number
 abbrev pub is_player : ℕ → Bool
-is_player player = nat_le 1 player && nat_le player 1000
+is_player player = nat_le 1 player && nat_le player player_limit
 
 -- a handle that can be set: one of the class but the role
 abbrev pub takes : Class → ℕ → ℤ → Bool
@@ -233,8 +234,8 @@ is_in_range table edits (Own a player) = player == 0 || is_player player
 is_in_range table edits (View player x y) = is_player player
 is_in_range table edits (Add a player on) = is_player player
 is_in_range table edits (Switch a h on) = has_switch (class_of table edits a) h
-is_in_range table edits (Team player team) = is_player player && nat_le team 64
-is_in_range table edits (Give a team) = nat_le team 64
+is_in_range table edits (Team player team) = is_player player && nat_le team team_limit
+is_in_range table edits (Give a team) = nat_le team team_limit
 is_in_range table edits (Destroy a) = true
 is_in_range table edits (Dormant a) = true
 is_in_range table edits (Wake a) = true
@@ -242,7 +243,7 @@ is_in_range table edits (Flush a) = true
 
 -- it is a spawn after the 8,192nd
 abbrev pub is_past_last : Edits → Edit → Bool
-is_past_last edits edit = is_spawn edit && nat_le 8192 (spawn_count edits)
+is_past_last edits edit = is_spawn edit && nat_le spawn_limit (spawn_count edits)
 
 -- why the edit isn't taken, the first that holds
 abbrev pub refusal_of : Table → Edits → Edit → Option EditRefusal

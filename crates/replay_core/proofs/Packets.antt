@@ -11,7 +11,7 @@ use Rattle.protocol_model.specs.Bits.{digits, int_width, int_bits, packed_in, by
 use Rattle.protocol_model.specs.BuiltIn.{pawn}
 use Rattle.protocol_model.specs.Packet.{Sends, Spells, spelling_of}
 use Rattle.protocol_model.specs.Payload.{parts_of}
-use Rattle.replication_model.specs.Bunches.{made_bunch}
+use Rattle.connection_model.specs.Bunches.{made_bunch}
 use Rattle.pawn_open.specs.declared.Pawn.{Pawn}
 use Rattle.pawn_open.specs.Open.{pairs_of, open_bits}
 use Rattle.replay_core.specs.Turns.{open_bunch, packet_with, open_packet}

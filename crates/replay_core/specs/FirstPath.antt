@@ -8,7 +8,7 @@ use Rattle.protocol_model.specs.declared.Version.TheVariants.{One}
 use Rattle.protocol_model.specs.declared.Verdict.TheVariants.{Taken, Old}
 use Rattle.protocol_model.specs.Side.{AtServer, AtClient}
 use Rattle.protocol_model.specs.Search.{newest_of, or_else, is_among, greatest_of}
-use Rattle.protocol_model.specs.Value.{Prop, Pair, value_at, handles_of, is_within, is_below}
+use Rattle.protocol_model.specs.Value.{Prop, Pair, value_among, handles_of, is_within, is_below}
 use Rattle.protocol_model.specs.BuiltIn.{built_in_table, pawn}
 use Rattle.protocol_model.specs.Packet.{Rec, Sends, spelling_of}
 use Rattle.protocol_model.specs.Payload.{Message, Opens}
@@ -16,7 +16,7 @@ use Rattle.protocol_model.specs.World.{Edits, Edit, Spawn, Set, spawn_count, is_
 use Rattle.protocol_model.specs.Sight.{is_relevant, visible_pairs}
 use Rattle.script_model.specs.Lines.{Line, Text, Join, ApplyEdit, TickAll, Deliver, Dump}
 use Rattle.script_model.specs.Reports.{Answer, Says, Absent, Report, Joined, Actor, Sent, Answered, Copies, Copy, report_text}
-use Rattle.replication_model.specs.Bunches.{made_bunch}
+use Rattle.connection_model.specs.Bunches.{made_bunch}
 
 -- ---- the world and the player
 
@@ -114,7 +114,7 @@ taken_of (line ∷ lines) = taken_of lines
 -- each property by its name, with the value in the open or else the class's own
 abbrev pub copied_values : List Pair → List (Text × ℤ)
 copied_values values =
-    map (λ (entry : ℕ × Prop). (entry.1.name, unwrap_or (value_at values entry.0) entry.1.init)) (handles_of pawn)
+    map (λ (entry : ℕ × Prop). (entry.1.name, unwrap_or (value_among values entry.0) entry.1.init)) (handles_of pawn)
 
 -- the client's copy, where the packet with the open was taken
 abbrev pub copy_reports : (player : ℕ) → Option Opening → (taken : List ℕ) → List Report

@@ -1,10 +1,8 @@
-pub mod Examples
-pub mod Laws
 pub mod Tables
-pub mod Scripts
-pub mod Transcripts
-pub mod LossTranscripts
-pub mod ClosingTranscripts
-pub mod ForgedTranscripts
-pub mod VersionTranscripts
-pub mod LongTranscripts
+mod Scripts
+mod Transcripts
+mod LossTranscripts
+mod ClosingTranscripts
+mod ForgedTranscripts
+mod VersionTranscripts
+mod LongTranscripts

@@ -5,11 +5,11 @@ use Rattle.protocol_model.specs.Value.{Table}
 use Rattle.protocol_model.specs.World.{class_of}
 use Rattle.protocol_model.specs.Sight.{seen_of}
 use Rattle.protocol_model.specs.Side.{Side, AtServer, AtClient}
-use Rattle.replication_model.specs.State.{index_of}
-use Rattle.replication_model.specs.Carry.{updatable_pairs}
-use Rattle.replication_model.specs.Settled.{is_settled}
-use Rattle.replication_model.specs.Copies.{copy_class, copy_channel, copy_value}
-use Rattle.replication_model.specs.Handed.{queued_on, handed_on}
+use Rattle.connection_model.specs.State.{index_of}
+use Rattle.connection_model.specs.Carry.{updatable_pairs}
+use Rattle.connection_model.specs.Settled.{is_settled}
+use Rattle.connection_model.specs.Copies.{copy_class, copy_channel, copy_value}
+use Rattle.connection_model.specs.Handed.{queued_on, handed_on}
 use Rattle.protocol_model.specs.Value.{Pair}
 use Rattle.script_model.specs.Lines.{Line, Forge}
 use Rattle.replication_model.specs.Story.{Story, Player, story_of, past_at, other_side}

@@ -1,23 +1,24 @@
 -- What the lines of a script do: edits of the world, and events of each player's two ends.
 use Rattle.std.specs.Prelude.{ℕ, ◌+◌, ◌-◌, ◌*◌, ◌%◌, ◌==◌, List, [], ◌∷◌, ◌++◌, map, length, drop, Bool, not, ◌&&◌, ◌||◌, nat_lt, Option, Some, None, find, filter, filter_map, option_map, unwrap_or, slice_get, if◌then◌else◌, ℤ}
 use Rattle.std.specs.List.{flat_map, fold, range_with_len}
+use Rattle.protocol_model.specs.Limits.{late_distance}
 use Rattle.protocol_model.specs.Value.{Table, Class, Prop, Arg, handles_of}
 use Rattle.protocol_model.specs.World.{Edits, Edit, Spawn, spawn_count}
 use Rattle.protocol_model.specs.Sight.{sight}
 use Rattle.protocol_model.specs.declared.Version.{Version}
 use Rattle.protocol_model.specs.Payload.{Calls}
-use Rattle.replication_model.specs.Feed.{End, Event, Tick, Got, Past, Delivered, has_ended}
+use Rattle.connection_model.specs.Feed.{End, Event, Tick, Got, Past, Delivered, has_ended}
 use Rattle.protocol_model.specs.Side.{Side, AtServer, AtClient}
 use Rattle.protocol_model.specs.Sight.{Seen}
-use Rattle.replication_model.specs.Fates.{top_of}
-use Rattle.replication_model.specs.Copies.{copied_actors, copy_class, copy_channel, copy_value}
-use Rattle.replication_model.specs.CallAnswers.{answer_of}
+use Rattle.connection_model.specs.Fates.{top_of}
+use Rattle.connection_model.specs.Copies.{copied_actors, copy_class, copy_channel, copy_value}
+use Rattle.connection_model.specs.CallAnswers.{answer_of}
 use Rattle.protocol_model.specs.declared.Verdict.{Verdict}
-use Rattle.replication_model.specs.Verdict.{verdict_of}
-use Rattle.replication_model.specs.Past.{past_of, sent_bytes}
+use Rattle.connection_model.specs.Verdict.{verdict_of}
+use Rattle.connection_model.specs.Past.{past_of, sent_bytes}
 use Rattle.protocol_model.specs.declared.CallVerdict.{CallVerdict}
-use Rattle.replication_model.specs.Handed.{handed_by, server_verdict, client_verdict}
-use Rattle.replication_model.specs.Settled.{is_settled}
+use Rattle.connection_model.specs.Handed.{handed_by, server_verdict, client_verdict}
+use Rattle.connection_model.specs.Settled.{is_settled}
 use Rattle.protocol_model.specs.Search.{insert_in_order}
 use Rattle.script_model.specs.Lines.{Line, Join, ApplyEdit, TickAll, TickClient, Deliver, DeliverNew, CallTo, CallAll, Dump, AskSettled, Forge}
 use Rattle.script_model.specs.Reports.{Says, Absent, Late, Report, Joined, Actor, Sent, Stalled, Handed, Answered, Forged, Called, Copies, Copy, Settled}
@@ -132,11 +133,11 @@ handed_reports edits side player end past bytes =
     filter_map (call_report edits side player) (handed_by end past bytes)
 
 -- a player and what was told
-abbrev pub Told : Type 0
-Told = Player × List Report
+abbrev pub Reported : Type 0
+Reported = Player × List Report
 
 -- the end hears a datagram: the calls that it hands over, and then its verdict
-abbrev pub after_datagram : Table → Edits → Side → (Verdict → Report) → List ℕ → Player → Told
+abbrev pub after_datagram : Table → Edits → Side → (Verdict → Report) → List ℕ → Player → Reported
 after_datagram table edits side report bytes p =
     let past = past_at table side p in
     let end = end_of table side p in (
@@ -146,15 +147,15 @@ after_datagram table edits side report bytes p =
 
 -- a packet that wasn't sent is absent, one more than 8,192 below the last taken number late; neither is
 -- delivered
-abbrev pub after_delivery : Table → Edits → Side → (number : ℕ) → Player → Told
+abbrev pub after_delivery : Table → Edits → Side → (number : ℕ) → Player → Reported
 after_delivery table edits side k p = elim (slice_get (out_at table (other_side side) p) (k - 1)) [
   | None ↦ (p, Answered side p.number k Absent ∷ [])
-  | Some bytes ↦ (if nat_lt (k + 8192) (top_of (past_at table side p)) then (p, Answered side p.number k Late ∷ [])
+  | Some bytes ↦ (if nat_lt (k + late_distance) (top_of (past_at table side p)) then (p, Answered side p.number k Late ∷ [])
       else after_datagram table edits side (λ verdict. Answered side p.number k (Says verdict)) bytes p)
 ]
 
 -- one more packet delivered
-abbrev pub also_delivery : Table → Edits → Side → Told → (number : ℕ) → Told
+abbrev pub also_delivery : Table → Edits → Side → Reported → (number : ℕ) → Reported
 also_delivery table edits side told k =
     let next = after_delivery table edits side k told.0 in (next.0, told.1 ++ next.1)
 
@@ -173,25 +174,25 @@ abbrev pub is_kept : (every number : ℕ) → Bool
 is_kept every k = every == 0 || not (k % every == 0)
 
 -- each packet sent since the last line of this kind, but those whose number is a multiple
-abbrev pub after_new_deliveries : Table → Edits → Side → (every : ℕ) → Player → Told
+abbrev pub after_new_deliveries : Table → Edits → Side → (every : ℕ) → Player → Reported
 after_new_deliveries table edits side every p =
     let count = length (out_at table (other_side side) p) in
     fold (also_delivery table edits side) (with_told side count p, [])
     (filter (is_kept every) (range_with_len (told_before side p + 1) (count - told_before side p)))
 
 -- a datagram that nobody sent
-abbrev pub after_forgery : Table → Edits → Side → List ℕ → Player → Told
+abbrev pub after_forgery : Table → Edits → Side → List ℕ → Player → Reported
 after_forgery table edits side bytes p = after_datagram table edits side (Forged side p.number) bytes p
 
 -- ---- calls and copies
 
 -- a call at one end
-abbrev pub after_call_of : Table → Side → (actor number : ℕ) → List Arg → Player → Told
+abbrev pub after_call_of : Table → Side → (actor number : ℕ) → List Arg → Player → Reported
 after_call_of table side a n args p =
     (with_event side (Event.Call a n args) p, Called side p.number (answer_of side (past_at table side p) a n args) ∷ [])
 
 -- whether the actor is settled for the player
-abbrev pub settled_answer : Table → Edits → (actor : ℕ) → Player → Told
+abbrev pub settled_answer : Table → Edits → (actor : ℕ) → Player → Reported
 settled_answer table edits a p =
     (p, Settled p.number a (is_settled table edits p.number (past_at table AtServer p) a) ∷ [])
 
@@ -215,21 +216,21 @@ copies_reports table p =
 -- ---- lines
 
 -- the player's own part of the story goes on, and the others stay
-abbrev pub with_player : (Player → Told) → (player : ℕ) → Story → Story × List Report
+abbrev pub with_player : (Player → Reported) → (player : ℕ) → Story → Story × List Report
 with_player does n story = (
   record story { players = map (λ (p : Player). if p.number == n then (does p).0 else p) story.players },
   flat_map (λ (p : Player). if p.number == n then (does p).1 else []) story.players,
 )
 
 -- each player's part of the story goes on
-abbrev pub with_all : (Player → Told) → Story → Story × List Report
+abbrev pub with_all : (Player → Reported) → Story → Story × List Report
 with_all does story = (
   record story { players = map (λ (p : Player). (does p).0) story.players },
   flat_map (λ (p : Player). (does p).1) story.players,
 )
 
 -- a tick of one end
-abbrev pub after_tick_of : Table → Edits → Side → Player → Told
+abbrev pub after_tick_of : Table → Edits → Side → Player → Reported
 after_tick_of table edits side p =
     let new = with_event side (tick_event table edits side p) p in
     (new, tick_reports side p.number (end_of table side p) (past_at table side p) (past_at table side new))

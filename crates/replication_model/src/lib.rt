@@ -1,23 +1,27 @@
-// The definitions of a connection and of a replay: what each end did, as one list that forgets
-// nothing, what both ends did over a script's lines, and what is promised of it.
+// The definitions of both ends: what a server and its players' clients do over a script's lines, the
+// transcript of it, and what is promised of settled actors and reliable calls.
 //
-// It has definitions, laws about them and no code. It stands on `protocol_model` and `script_model`.
-// `proofs/` has worked scripts whose whole transcripts the checker computes.
+//     lines -> story (edits so far; for each player the feeds of both ends) -> reports -> transcript
+//
+// It has definitions, a law about them and no code. It stands on `connection_model` for each end and on
+// `script_model` for lines and texts. `proofs/` has worked scripts whose whole transcripts the checker
+// computes.
 #![tactic(auto)]
 
-ghost use Rattle.std.specs.Prelude.{◌≡◌, [], ◌∷◌, ℕ, List, true};
-ghost use Rattle.replication_model.specs.Feed.{End, Event, Past, has_ended};
-ghost use Rattle.replication_model.specs.Past.{past_of, out_of, after_event};
-ghost use Rattle.replication_model.specs.Fates.{last_sent, high_of};
+ghost use Rattle.std.specs.Prelude.{◌≡◌, [], ℕ, true};
+ghost use Rattle.protocol_model.specs.Side.{Side};
+ghost use Rattle.protocol_model.specs.Value.{Table};
+ghost use Rattle.script_model.specs.Lines.{Line};
+ghost use Rattle.replication_model.specs.Story.{feed_after, is_kept, story_of, first_story};
 
-/// Before anything happened an end has sent nothing, and knows of no packet.
-pub fn before_all()
-    ensures sent { (end : End) → out_of end [] ≡ [] }
-    ensures number { last_sent [] ≡ 0 }
-    ensures high { high_of [] ≡ 0 }
+/// Before the first line nothing was told, and no end of any player heard anything.
+pub fn before_all_lines()
+    ensures story { (table : Table) → (story_of table []).0 ≡ first_story }
+    ensures reports { (table : Table) → (story_of table []).1 ≡ [] }
+    ensures feeds { (table : Table) (side : Side) (player : ℕ) → feed_after table [] side player ≡ [] }
 {}
 
-/// Nothing is added to the past of an end that has ended.
-pub fn ended_stays()
-    ensures { (end : End) (past : Past) (event : Event) → has_ended past ≡ true → after_event end past event ≡ past }
+/// A delivery of new packets that loses none delivers each.
+pub fn no_loss_keeps_all()
+    ensures { (number : ℕ) → is_kept 0 number ≡ true }
 {}

@@ -15,6 +15,7 @@ use Rattle.script_model.specs.Lines as story
 use Rattle.script_model.specs.Lines.{Line, Text}
 use Rattle.script_model.specs.Script.{Spelled, Join, Spawn, Destroy, Set, Own, View, Add, Dormant, Wake, Flush, Switch, Team, Give, Tick, ClientTick, Deliver, DeliverNew, CallTo, CallAll, Dump, AskSettled, Forge, pieces, number_of, octets_of, spelled_of, ◌>>=◌}
 use Rattle.std.specs.Bool.{then_some}
+use Rattle.protocol_model.specs.Limits.{budget_limit, connection_limit, line_bytes, player_limit, script_bytes, spawn_limit, team_limit}
 use Rattle.protocol_model.specs.Search.{is_among}
 use Rattle.protocol_model.specs.declared.LineWhy.{LineWhy}
 use Rattle.protocol_model.specs.declared.LineWhy.TheVariants.{TooLong, NotText, Shape, Place, Range, NoPlayer, Taken, NoClass, NoActor, NoName, Full}
@@ -32,7 +33,7 @@ is_from_to low high z = int_le (pos low) z && int_le z (pos high)
 
 -- a player's number
 abbrev pub is_player : ℤ → Bool
-is_player p = is_from_to 1 1000 p
+is_player p = is_from_to 1 player_limit p
 
 -- a whole number of 32 bits
 abbrev pub is_coordinate : ℤ → Bool
@@ -40,13 +41,13 @@ is_coordinate z = int_le (negsuc (2 ^ 31 - 1)) z && int_le z (pos (2 ^ 31 - 1))
 
 -- the players, budgets, packets, teams and coordinates of the line are in range
 abbrev pub is_in_range : Spelled → Bool
-is_in_range (Join version player budget) = is_player player && is_from_to 1 1000000 budget
+is_in_range (Join version player budget) = is_player player && is_from_to 1 budget_limit budget
 is_in_range (Spawn class x y) = is_coordinate x && is_coordinate y
-is_in_range (Own actor player) = is_from_to 0 1000 player
+is_in_range (Own actor player) = is_from_to 0 player_limit player
 is_in_range (View player x y) = is_player player && is_coordinate x && is_coordinate y
 is_in_range (Add on actor player) = is_player player
-is_in_range (Team player team) = is_player player && is_from_to 0 64 team
-is_in_range (Give actor team) = is_from_to 0 64 team
+is_in_range (Team player team) = is_player player && is_from_to 0 team_limit team
+is_in_range (Give actor team) = is_from_to 0 team_limit team
 is_in_range (ClientTick player) = is_player player
 is_in_range (Deliver side player number) = is_player player && is_from_to 1 1000000 number
 is_in_range (DeliverNew side player every) = is_player player && is_from_to 0 1000 every
@@ -243,8 +244,8 @@ is_live line = true
 
 -- it is the 65th join, or the 8,193rd spawn
 abbrev pub is_past_last : Before → Spelled → Bool
-is_past_last before (Join version player budget) = nat_le 64 (length before.joined)
-is_past_last before (Spawn class x y) = nat_le 8192 (spawn_count before.edits)
+is_past_last before (Join version player budget) = nat_le connection_limit (length before.joined)
+is_past_last before (Spawn class x y) = nat_le spawn_limit (spawn_count before.edits)
 is_past_last before line = false
 
 -- the first reason that holds against the line
@@ -332,7 +333,7 @@ does_nothing (c ∷ cs) = c == 35
 -- a line's reading: nothing for an empty line or a comment
 abbrev pub reading_of : Table → (live : Bool) → Before → Text → Result (Option Spelled) LineWhy
 reading_of table live before text =
-    if nat_lt 16384 (length text) then Err TooLong
+    if nat_lt line_bytes (length text) then Err TooLong
     else if not (list_all (λ c. nat_lt c 128) text) then Err NotText
     else if does_nothing text then Ok None
     else shaped (spelled_of text)
@@ -362,7 +363,7 @@ lines_from table live before n (text ∷ texts) = elim (reading_of table live be
 -- the lines of a script, or its first bad line with the first reason
 abbrev pub script_of : Table → (live : Bool) → List ℕ → Result (List Line) (ℕ × LineWhy)
 script_of table live bytes =
-    if nat_lt 67108864 (length bytes) then Err (1, TooLong)
+    if nat_lt script_bytes (length bytes) then Err (1, TooLong)
     else lines_from table live (record { edits = []; joined = [] }) 1 (pieces 10 bytes)
 
 -- the script is accepted, and these are its lines

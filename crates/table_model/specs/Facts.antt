@@ -3,6 +3,7 @@ use Rattle.std.specs.Prelude.{◌≡◌, ℕ, ◌+◌, ◌*◌, ◌≤◌, ◌<�
 use Rattle.std.specs.List.{list_all}
 use Rattle.std.specs.Option.{IfSome}
 use Rattle.std.specs.Str.{bytes_eq}
+use Rattle.protocol_model.specs.Limits.{argument_limit, priority_limit, segment_limit}
 use Rattle.protocol_model.specs.declared.Kind.{Kind}
 use Rattle.protocol_model.specs.declared.Kind.TheVariants.{Enum, Bytes}
 use Rattle.protocol_model.specs.declared.Reach.{Reach}
@@ -35,7 +36,7 @@ is_prop p = is_name p.name && is_type false p.kind && fits p.kind p.init
 -- a call is named, has at most 16 arguments, and they fit their limit
 abbrev pub is_call : Call → Bool
 is_call c =
-    is_name c.name && list_all (is_type true) c.args && nat_le (length c.args) 16
+    is_name c.name && list_all (is_type true) c.args && nat_le (length c.args) argument_limit
     && nat_le (largest_args c.args) (args_limit c.reliable)
 
 -- a cull distance is 1 to 50,000
@@ -65,7 +66,7 @@ pub record IsClass (before : List Entry) (e : Entry) : Type 0 where
   pub handles : handle_count e.class ≤ 200
   pub calls_most : length e.class.calls ≤ 64
   pub priority_least : 1 ≤ e.class.priority
-  pub priority_most : e.class.priority ≤ 255
+  pub priority_most : e.class.priority ≤ priority_limit
   pub reach : IsTrue (is_reach e.class.reach)
   -- its path
   pub path_least : 1 ≤ length e.class.path
@@ -78,7 +79,7 @@ pub record AreSegments (segments : List Segment) : Type 0 where
       → (s.guid == t.guid) ≡ (s.outer == t.outer && bytes_eq s.name t.name)
   -- guids are 3, 5 and on, of at most 1,024 segments
   pub guid : (n : ℕ) (s : Segment) → slice_get segments n ≡ Some s
-      → (i : ℕ) × (i < 1024) × (s.guid ≡ 2 * i + 3)
+      → (i : ℕ) × (i < segment_limit) × (s.guid ≡ 2 * i + 3)
 
 -- the classes of an accepted table
 pub record IsTable (entries : List Entry) : Type 0 where

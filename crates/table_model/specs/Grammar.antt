@@ -1,7 +1,8 @@
 -- Class tables: which bytes are one, the classes of each, and the first rule that other bytes break.
-use Rattle.std.specs.Prelude.{ℕ, ◌+◌, List, [], ◌∷◌, ◌++◌, map, length, Bool, ◌&&◌, nat_le, Option, Some, None, Result, Ok, if◌then◌else◌, slice_index_or}
+use Rattle.std.specs.Prelude.{ℕ, ◌+◌, ◌*◌, List, [], ◌∷◌, ◌++◌, map, length, Bool, ◌&&◌, nat_le, Option, Some, None, Result, Ok, if◌then◌else◌, slice_index_or}
 use Rattle.std.specs.Option.{ok_or}
 use Rattle.std.specs.Str.{is_utf8}
+use Rattle.protocol_model.specs.Limits.{call_limit, class_limit, handle_limit, table_bytes, segment_limit}
 use Rattle.serde_json.specs.Data.{Data}
 use Rattle.serde_json.specs.Read.{read}
 use Rattle.protocol_model.specs.Value.{Prop, Call, Class, Table, handle_count}
@@ -20,8 +21,8 @@ parent_in before (Some n) = (slice_index_or before n (record { parent = None; cl
 -- at most 200 handles and 64 calls, and in the table so far at most 1,024 segments
 abbrev pub sizes_fit : List Entry → Class → Bool
 sizes_fit before class =
-    nat_le (handle_count class) 200 && nat_le (length class.calls) 64
-    && nat_le (next_guid (segments_of before ++ class.path)) 2051
+    nat_le (handle_count class) handle_limit && nat_le (length class.calls) call_limit
+    && nat_le (next_guid (segments_of before ++ class.path)) (2 * segment_limit + 3)
 
 -- the class with its heading, its properties and its calls, the inherited ones first
 abbrev pub class_with : List Entry → Heading → List Prop → List Call → Class
@@ -57,10 +58,10 @@ json_of bytes = if is_utf8 bytes then read bytes else None
 -- the top, and then the classes
 abbrev pub entries_of : List ℕ → Result (List Entry) Refusal
 entries_of bytes = do
-  _ ← at Place.Table (must (nat_le (length bytes) 1000000) TooLong)
+  _ ← at Place.Table (must (nat_le (length bytes) table_bytes) TooLong)
   d ← at Place.Table (ok_or (json_of bytes) Json)
   classes ← at Place.Table (ok_or (classes_of d) Shape)
-  _ ← at Place.Table (must (nat_le 1 (length classes) && nat_le (length classes) 256) Range)
+  _ ← at Place.Table (must (nat_le 1 (length classes) && nat_le (length classes) class_limit) Range)
   classes_after [] classes
 
 -- the classes without their parents

@@ -3,6 +3,7 @@ use Rattle.std.specs.Prelude.{ℕ, ◌+◌, ◌*◌, ◌==◌, ℤ, pos, negsuc,
 use Rattle.std.specs.List.{list_any}
 use Rattle.std.specs.Option.{ok_or}
 use Rattle.std.specs.Str.{bytes_eq}
+use Rattle.protocol_model.specs.Limits.{argument_limit, cull_limit, priority_limit, reliable_call_bits, unreliable_call_bits}
 use Rattle.serde_json.specs.Data.{Data}
 use Rattle.protocol_model.specs.Bits.{int_width}
 use Rattle.protocol_model.specs.declared.Kind.{Kind}
@@ -62,7 +63,7 @@ largest_args kinds = sum (map most_bits kinds)
 
 -- how many bits the arguments of a call may take
 abbrev pub args_limit : (reliable : Bool) → ℕ
-args_limit reliable = if reliable then 60000 else 6900
+args_limit reliable = if reliable then reliable_call_bits else unreliable_call_bits
 
 -- the kinds of the arguments, one by one
 abbrev pub arg_kinds : List (List ℕ) → Result (List Kind) TableWhy
@@ -84,7 +85,7 @@ call_after before d = do
   _ ← must (not (is_there (call_names before) c.name)) Twice
   way ← ok_or (meaning_in ways c.kind) BadType
   kinds ← arg_kinds c.args
-  _ ← must (nat_le (length kinds) 16) Range
+  _ ← must (nat_le (length kinds) argument_limit) Range
   _ ← must (nat_le (largest_args kinds) (args_limit c.reliable)) TooBig
   Ok (record { name = c.name; way = way; reliable = c.reliable; args = kinds })
 
@@ -129,7 +130,7 @@ parent_of before (Some name) = ok_or (option_map (λ n. Some n) (place_of before
 abbrev pub reach_of : List ℕ → (cull : ℤ) → Result Reach TableWhy
 reach_of relevancy cull =
     if bytes_eq relevancy (codes "always") then only (is_from_to 0 0 cull) Always
-    else if bytes_eq relevancy (codes "near") then only (is_from_to 1 50000 cull) (Near (unsigned_abs cull))
+    else if bytes_eq relevancy (codes "near") then only (is_from_to 1 cull_limit cull) (Near (unsigned_abs cull))
     else if bytes_eq relevancy (codes "owner") then only (is_from_to 0 0 cull) Owner
     else Err BadType
   where
@@ -156,7 +157,7 @@ heading_after before d = do
   _ ← must (not (has_path before path)) Twice
   parent ← parent_of before c.parent
   reach ← reach_of c.relevancy c.cull
-  _ ← must (is_from_to 1 255 c.priority) Range
+  _ ← must (is_from_to 1 priority_limit c.priority) Range
   Ok (record {
     name = c.name;
     path = path;

@@ -1,9 +1,10 @@
 -- The texts of a class table: names, paths, and the words for types, conditions and kinds.
-use Rattle.std.specs.Prelude.{ℕ, ◌==◌, List, [], ◌∷◌, length, Bool, true, false, ◌&&◌, ◌||◌, nat_le, Option, Some, None, option_and_then, Result, Ok, Err, if◌then◌else◌, codes}
+use Rattle.std.specs.Prelude.{ℕ, ◌==◌, List, [], ◌∷◌, length, Bool, true, false, ◌&&◌, ◌||◌, nat_lt, nat_le, Option, Some, None, option_and_then, Result, Ok, Err, if◌then◌else◌, codes}
 use Rattle.std.specs.Bool.{then_some}
 use Rattle.std.specs.Char.{is_ascii_alphabetic, is_ascii_alphanumeric}
 use Rattle.std.specs.List.{list_all}
 use Rattle.std.specs.Str.{bytes_eq}
+use Rattle.protocol_model.specs.Limits.{depth_limit, name_bytes}
 use Rattle.protocol_model.specs.declared.Cond.{Cond}
 use Rattle.protocol_model.specs.declared.Kind.{Kind}
 use Rattle.protocol_model.specs.declared.Way.{Way}
@@ -26,7 +27,7 @@ is_name_byte c = is_ascii_alphanumeric c || c == 95
 -- 1 to 31 of these, of which the first is a letter
 abbrev pub is_name : List ℕ → Bool
 is_name [] = false
-is_name (c ∷ cs) = is_ascii_alphabetic c && list_all is_name_byte cs && nat_le (length cs) 30
+is_name (c ∷ cs) = is_ascii_alphabetic c && list_all is_name_byte cs && nat_lt (length cs) name_bytes
 
 -- the names of a path, outermost first; nothing stands before the first `/`
 abbrev pub names_behind : List (List ℕ) → Option (List (List ℕ))
@@ -38,7 +39,7 @@ abbrev pub path_of : List ℕ → Option (List (List ℕ))
 path_of text = option_and_then (λ names. then_some (is_path names) names) (names_behind (pieces 47 text))
   where
     is_path : List (List ℕ) → Bool
-    is_path names = nat_le 1 (length names) && nat_le (length names) 8 && list_all is_name names
+    is_path names = nat_le 1 (length names) && nat_le (length names) depth_limit && list_all is_name names
 
 -- ---- types
 

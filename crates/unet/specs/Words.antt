@@ -4,14 +4,14 @@ use Rattle.std.specs.Str.{bytes_eq}
 use Rattle.script_model.specs.Lines.{Text}
 
 -- a name isn't empty and doesn't begin with `-`
-abbrev pub is_name : Text → Bool
-is_name [] = false
-is_name (c ∷ cs) = not (c == 45)
+abbrev pub is_file_name : Text → Bool
+is_file_name [] = false
+is_file_name (c ∷ cs) = not (c == 45)
 
 -- the words are `replay`, `-` for the built-in table, and the name of a script
 abbrev pub is_replay : List Text → Bool
 is_replay (command ∷ table ∷ script ∷ []) =
-    bytes_eq command (codes "replay") && bytes_eq table (codes "-") && is_name script
+    bytes_eq command (codes "replay") && bytes_eq table (codes "-") && is_file_name script
 is_replay words = false
 
 -- the script that the words name

@@ -1,6 +1,6 @@
 // The words of the program.
 ghost use Rattle.std.specs.Prelude.{◌≡◌, map, string_bytes, true, false, IfSome, IfNone};
-ghost use Rattle.unet.specs.Words.{is_name, is_replay, script_in};
+ghost use Rattle.unet.specs.Words.{is_file_name, is_replay, script_in};
 
 /// The script's name in `replay - SCRIPT`; nothing for other words.
 pub fn script_name(words: &[String]) -> Option<&str>
@@ -19,7 +19,7 @@ pub fn script_name(words: &[String]) -> Option<&str>
 
 /// The word may name a file.
 fn names_file(word: &str) -> bool
-    ensures { result ≡ is_name word.now }
+    ensures { result ≡ is_file_name word.now }
 {
     !word.is_empty() && !word.starts_with('-')
 }

@@ -11,7 +11,7 @@ use Rattle.world_table.specs.declared.actor.Cell.{Cell}
 use Rattle.world_table.specs.declared.edit.Look.{Look}
 use Rattle.world_table.specs.Answers.{settable_at, named_value, is_switched}
 use Rattle.world_table.specs.Kept.{Kept, actor_at, cell_at, record_value, switch_at}
-use Rattle.world_table.specs.Stands.{Told, told_of, told_value, HasCell, ActorIs, IsKept, Stands}
+use Rattle.world_table.specs.Stands.{History, history_of, told_value, HasCell, ActorIs, IsKept, Stands}
 use Rattle.world_table.proofs.Props.{apart}
 use Rattle.world_table.proofs.Cells.{place_is}
 
@@ -31,7 +31,7 @@ cell_switch layout set switch p (Some cell) h = h.on
 
 -- ---- what stands of the class's properties, by the handles from 4 on
 
-switch_told : (layout : Layout) (cells : List Cell) (told : Told) (r : Actor) (h : ActorIs layout cells told r) (k : ℕ)
+switch_told : (layout : Layout) (cells : List Cell) (told : History) (r : Actor) (h : ActorIs layout cells told r) (k : ℕ)
     (o : Option Prop)
     → slice_get (class_at (table_in layout) h.spawned.class).props k ≡ o
     → unwrap_or
@@ -42,7 +42,7 @@ switch_told layout cells told r h k None e = refl
 switch_told layout cells told r h k (Some p) e = cell_switch layout (told.set (4 + k)) (told.on (4 + k)) p
     (slice_get cells (r.first + k)) (h.holds k p e)
 
-value_told : (layout : Layout) (cells : List Cell) (told : Told) (r : Actor) (h : ActorIs layout cells told r) (k : ℕ)
+value_told : (layout : Layout) (cells : List Cell) (told : History) (r : Actor) (h : ActorIs layout cells told r) (k : ℕ)
     (o : Option Prop)
     → slice_get (class_at (table_in layout) h.spawned.class).props k ≡ o
     → option_map (λ (c : Cell). whole_of c.value)
@@ -54,7 +54,7 @@ value_told layout cells told r h k (Some p) e = cell_value layout (told.set (4 +
 
 -- ---- switches
 
-record_switch : (layout : Layout) (cells : List Cell) (told : Told) (r : Actor) (i : ActorIs layout cells told r)
+record_switch : (layout : Layout) (cells : List Cell) (told : History) (r : Actor) (i : ActorIs layout cells told r)
     (h : ℕ)
     → unwrap_or (option_map (λ (c : Cell). c.on) (cell_at cells r h)) false
     ≡ (has_switch (class_at (table_in layout) i.spawned.class) h && told.on h)
@@ -77,20 +77,20 @@ no_switch (suc (suc zero)) on = refl
 no_switch (suc (suc (suc zero))) on = refl
 no_switch (suc (suc (suc (suc k)))) on = refl
 
-switch_by : (layout : Layout) (cells : List Cell) (told : Told) (h : ℕ) (o : Option Actor) → IsKept layout cells told o
+switch_by : (layout : Layout) (cells : List Cell) (told : History) (h : ℕ) (o : Option Actor) → IsKept layout cells told o
     → unwrap_or (option_map (λ (c : Cell). c.on) (option_and_then (λ (r : Actor). cell_at cells r h) o)) false
     ≡ (has_switch (class_in (table_in layout) told.spawn) h && told.on h)
 switch_by layout cells told h None e =
     sym (no_switch h (told.on h))
     ∙ ap (λ (o : Option Spawned). has_switch (class_in (table_in layout) o) h && told.on h)
-    (sym (ap (λ (t : Told). t.spawn) e))
+    (sym (ap (λ (t : History). t.spawn) e))
 switch_by layout cells told h (Some r) i =
     record_switch layout cells told r i h
     ∙ ap (λ (o : Option Spawned). has_switch (class_in (table_in layout) o) h && told.on h) (sym i.spawn)
 
 pub switched_is : (w : Kept) (edits : Edits) (a h : ℕ) → Stands w edits
     → switch_at w.actors w.cells a h ≡ is_switched (table_in w.layout) edits a h
-switched_is w edits a h stands = switch_by w.layout w.cells (told_of edits a) h (actor_at w.actors a) (stands.actors a)
+switched_is w edits a h stands = switch_by w.layout w.cells (history_of edits a) h (actor_at w.actors a) (stands.actors a)
 
 -- ---- values
 
@@ -105,14 +105,14 @@ own_init : (o : Option Prop) (set : Option ℤ)
 own_init None set = refl
 own_init (Some p) set = refl
 
-told_own : (layout : Layout) (told : Told) (spawned : Spawned) (k : ℕ) → told.spawn ≡ Some spawned
+told_own : (layout : Layout) (told : History) (spawned : Spawned) (k : ℕ) → told.spawn ≡ Some spawned
     → told_value (table_in layout) told (suc (suc (suc (suc k))))
     ≡ unwrap_or (told.set (suc (suc (suc (suc k)))))
     (unwrap_or (option_map (λ (q : Prop). q.init) (slice_get (class_at (table_in layout) spawned.class).props k))
     (pos 0))
 told_own layout told spawned k e = rw (e, apart k 1 (omega arith), apart k 2 (omega arith)) refl
 
-record_told : (layout : Layout) (cells : List Cell) (told : Told) (r : Actor) (i : ActorIs layout cells told r) (h : ℕ)
+record_told : (layout : Layout) (cells : List Cell) (told : History) (r : Actor) (i : ActorIs layout cells told r) (h : ℕ)
     → option_map whole_of (record_value cells r h)
     ≡ option_map (λ (p : Prop). told_value (table_in layout) told h)
     (settable_at (class_at (table_in layout) i.spawned.class) h)
@@ -138,11 +138,11 @@ some_map : (o : Option Prop) (v : ℤ) → option_map (λ (p : Prop). v) o ≡ t
 some_map None v = refl
 some_map (Some p) v = refl
 
-value_by : (layout : Layout) (cells : List Cell) (told : Told) (h : ℕ) (o : Option Actor) → IsKept layout cells told o
+value_by : (layout : Layout) (cells : List Cell) (told : History) (h : ℕ) (o : Option Actor) → IsKept layout cells told o
     → option_map whole_of (option_and_then (λ (r : Actor). record_value cells r h) o)
     ≡ then_some (is_some told.spawn && is_some (settable_at (class_in (table_in layout) told.spawn) h))
     (told_value (table_in layout) told h)
-value_by layout cells told h None e = let none : told.spawn ≡ None = ap (λ (t : Told). t.spawn) e in rw none refl
+value_by layout cells told h None e = let none : told.spawn ≡ None = ap (λ (t : History). t.spawn) e in rw none refl
 value_by layout cells told h (Some r) i =
     record_told layout cells told r i h
     ∙ some_map (settable_at (class_at (table_in layout) i.spawned.class) h) (told_value (table_in layout) told h)
@@ -152,5 +152,5 @@ value_by layout cells told h (Some r) i =
 pub value_is : (w : Kept) (edits : Edits) (a h : ℕ) (r : Actor) → Stands w edits → Some r ≡ actor_at w.actors a
     → option_map whole_of (record_value w.cells r h) ≡ named_value (table_in w.layout) edits a h
 value_is w edits a h r stands found =
-    value_by w.layout w.cells (told_of edits a) h (Some r)
-    (subst (λ (o : Option Actor). IsKept w.layout w.cells (told_of edits a) o) (sym found) (stands.actors a))
+    value_by w.layout w.cells (history_of edits a) h (Some r)
+    (subst (λ (o : Option Actor). IsKept w.layout w.cells (history_of edits a) o) (sym found) (stands.actors a))

@@ -11,7 +11,7 @@ use Rattle.world_table.specs.declared.actor.Actor.{Actor}
 use Rattle.world_table.specs.declared.actor.Cell.{Cell}
 use Rattle.world_table.specs.declared.edit.Look.{Look}
 use Rattle.world_table.specs.Kept.{Kept, actor_at, living_at}
-use Rattle.world_table.specs.Stands.{Told, told_of, HasCell, ActorIs, IsKept, Stands}
+use Rattle.world_table.specs.Stands.{History, history_of, HasCell, ActorIs, IsKept, Stands}
 use Rattle.world_table.proofs.Numbers.{same_number, other_number}
 use Rattle.world_table.proofs.Lists.{slice_get-set_other}
 use Rattle.world_table.proofs.Records.{living_is}
@@ -19,8 +19,8 @@ use Rattle.world_table.proofs.Telling.{TellsOnly}
 
 -- the record of an actor is right
 pub actor_of : (w : Kept) (edits : Edits) (a : ℕ) (r : Actor) → Stands w edits → actor_at w.actors a ≡ Some r
-    → ActorIs w.layout w.cells (told_of edits a) r
-actor_of w edits a r stands is = subst (λ (o : Option Actor). IsKept w.layout w.cells (told_of edits a) o) is
+    → ActorIs w.layout w.cells (history_of edits a) r
+actor_of w edits a r stands is = subst (λ (o : Option Actor). IsKept w.layout w.cells (history_of edits a) o) is
     (stands.actors a)
 
 -- a living actor's record, found among lent ones
@@ -42,7 +42,7 @@ lives_of w edits lent a r stands same found =
     }
 
 -- other cells serve a record as well where they hold the same in its places
-pub other_cells : (layout : Layout) (cells later : List Cell) (told : Told) (o : Option Actor)
+pub other_cells : (layout : Layout) (cells later : List Cell) (told : History) (o : Option Actor)
     → IsKept layout cells told o
     → length cells ≤ length later
     → ((r : Actor) → o ≡ Some r → (n : ℕ) → r.first ≤ n → n < r.past → slice_get later n ≡ slice_get cells n)
@@ -67,7 +67,7 @@ other_cells layout cells later told (Some r) h longer agree =
 pub record_stands : (w : Kept) (edits : Edits) (e : Edit) (a : ℕ) (r later : Actor) (actors : List Actor)
     → Stands w edits
     → TellsOnly e a edits → actor_at w.actors a ≡ Some r → later.first ≡ r.first → later.past ≡ r.past
-    → ActorIs w.layout w.cells (told_of (e ∷ edits) a) later → length actors ≡ length w.actors
+    → ActorIs w.layout w.cells (history_of (e ∷ edits) a) later → length actors ≡ length w.actors
     → ((b : ℕ) → actor_at actors b ≡ (if b == a then Some later else actor_at w.actors b))
     → Stands (record w { actors = actors }) (e ∷ edits)
 record_stands w edits e a r later actors stands tells is first past right len each = record {
@@ -83,13 +83,13 @@ record_stands w edits e a r later actors stands tells is first past right len ea
 }
   where
     kept : (b : ℕ) (t : Bool) → (b == a) ≡ t → actor_at actors b ≡ (if t then Some later else actor_at w.actors b)
-        → IsKept w.layout w.cells (told_of (e ∷ edits) b) (actor_at actors b)
+        → IsKept w.layout w.cells (history_of (e ∷ edits) b) (actor_at actors b)
     kept b true q now =
-        subst (λ (o : Option Actor). IsKept w.layout w.cells (told_of (e ∷ edits) b) o) (sym now)
-        (subst (λ (c : ℕ). ActorIs w.layout w.cells (told_of (e ∷ edits) c) later) (sym (same_number b a q)) right)
+        subst (λ (o : Option Actor). IsKept w.layout w.cells (history_of (e ∷ edits) b) o) (sym now)
+        (subst (λ (c : ℕ). ActorIs w.layout w.cells (history_of (e ∷ edits) c) later) (sym (same_number b a q)) right)
     kept b false q now =
-        subst (λ (o : Option Actor). IsKept w.layout w.cells (told_of (e ∷ edits) b) o) (sym now)
-        (subst (λ (t : Told). IsKept w.layout w.cells t (actor_at w.actors b))
+        subst (λ (o : Option Actor). IsKept w.layout w.cells (history_of (e ∷ edits) b) o) (sym now)
+        (subst (λ (t : History). IsKept w.layout w.cells t (actor_at w.actors b))
         (sym (tells.others b (other_number b a q))) (stands.actors b))
 
     was : (b : ℕ) (s : Actor) (t : Bool) → (b == a) ≡ t
@@ -110,7 +110,7 @@ record_stands w edits e a r later actors stands tells is first past right len ea
 pub cell_stands : (w : Kept) (edits : Edits) (e : Edit) (a place : ℕ) (r : Actor) (cells : List Cell) (cell : Cell)
     → Stands w edits
     → TellsOnly e a edits → actor_at w.actors a ≡ Some r → r.first ≤ place → place < r.past
-    → cells ≡ slice_set w.cells place cell → ActorIs w.layout cells (told_of (e ∷ edits) a) r
+    → cells ≡ slice_set w.cells place cell → ActorIs w.layout cells (history_of (e ∷ edits) a) r
     → Stands (record w { cells = cells }) (e ∷ edits)
 cell_stands w edits e a place r cells cell stands tells is low high set right = record {
   count = stands.count ∙ sym tells.count;
@@ -133,12 +133,12 @@ cell_stands w edits e a place r cells cell stands tells is low high set right = 
     longer : length w.cells ≤ length cells
     longer = let len = ap length set ∙ length-set w.cells place cell in omega (arith, len)
 
-    kept : (b : ℕ) (t : Bool) → (b == a) ≡ t → IsKept w.layout cells (told_of (e ∷ edits) b) (actor_at w.actors b)
+    kept : (b : ℕ) (t : Bool) → (b == a) ≡ t → IsKept w.layout cells (history_of (e ∷ edits) b) (actor_at w.actors b)
     kept b true q =
-        subst (λ (c : ℕ). IsKept w.layout cells (told_of (e ∷ edits) c) (actor_at w.actors c)) (sym (same_number b a q))
-        (subst (λ (o : Option Actor). IsKept w.layout cells (told_of (e ∷ edits) a) o) (sym is) right)
+        subst (λ (c : ℕ). IsKept w.layout cells (history_of (e ∷ edits) c) (actor_at w.actors c)) (sym (same_number b a q))
+        (subst (λ (o : Option Actor). IsKept w.layout cells (history_of (e ∷ edits) a) o) (sym is) right)
     kept b false q =
         let far = other_number b a q in
-        subst (λ (t : Told). IsKept w.layout cells t (actor_at w.actors b)) (sym (tells.others b far))
-        (other_cells w.layout w.cells cells (told_of edits b) (actor_at w.actors b) (stands.actors b) longer
+        subst (λ (t : History). IsKept w.layout cells t (actor_at w.actors b)) (sym (tells.others b far))
+        (other_cells w.layout w.cells cells (history_of edits b) (actor_at w.actors b) (stands.actors b) longer
         (agree b far))

@@ -15,7 +15,7 @@ use Rattle.world_table.specs.declared.actor.Cell.{Cell}
 use Rattle.world_table.specs.declared.edit.Look.{Look}
 use Rattle.world_table.specs.Answers.{player_of}
 use Rattle.world_table.specs.Kept.{Kept, actor_at}
-use Rattle.world_table.specs.Stands.{Told, told_of, told_look, Holds, HasCell, ActorIs, Stands}
+use Rattle.world_table.specs.Stands.{History, history_of, told_look, Holds, HasCell, ActorIs, Stands}
 use Rattle.world_table.proofs.Numbers.{same_number, other_number}
 use Rattle.world_table.proofs.Lists.{slice_get-set_same, slice_get-set_other}
 use Rattle.world_table.proofs.Telling.{with_set, with_switch, destroy_tells, destroy_told, set_tells, set_told, own_tells, own_told, dormant_tells, dormant_told, wake_tells, wake_told, flush_tells, flush_told, switch_tells, switch_told, give_tells, give_told}
@@ -29,7 +29,7 @@ pub record Puts (w : Kept) (actors : List Actor) (a : ℕ) (later : Actor) : Typ
 -- ---- how an actor looks
 
 -- an actor that looks otherwise, but for its place
-looks : (layout : Layout) (cells : List Cell) (told : Told) (r : Actor) (h : ActorIs layout cells told r)
+looks : (layout : Layout) (cells : List Cell) (told : History) (r : Actor) (h : ActorIs layout cells told r)
     → (destroyed : Bool) (owner : ℕ) (dormant : Bool) (flush : ℕ) (look : Look)
     → look ≡ told_look (table_in layout)
     (record told { destroyed = destroyed; owner = owner; dormant = dormant; flush = flush }) h.spawned
@@ -50,12 +50,12 @@ pub destroy_stands : (w : Kept) (edits : Edits) (a : ℕ) (r : Actor) (actors : 
     → Puts w actors a (record r { look = record r.look { alive = false } })
     → Stands (record w { actors = actors }) (Destroy a ∷ edits)
 destroy_stands w edits a r actors stands is puts =
-    let told : Told = told_of edits a in
+    let told : History = history_of edits a in
     let later : Actor = record r { look = record r.look { alive = false } } in
     let h : ActorIs w.layout w.cells told r = actor_of w edits a r stands is in
     let dead : (is_some told.spawn && false) ≡ false = rw h.spawn refl in
     record_stands w edits (Destroy a) a r later actors stands (destroy_tells edits a) is refl refl
-    (subst (λ (t : Told). ActorIs w.layout w.cells t later) (sym (destroy_told edits a))
+    (subst (λ (t : History). ActorIs w.layout w.cells t later) (sym (destroy_told edits a))
     (looks w.layout w.cells told r h true told.owner told.dormant told.flush later.look
     (ap (λ (l : Look). record l { alive = false }) h.look
     ∙ ap (λ (b : Bool). record (told_look (table_in w.layout) told h.spawned) { alive = b }) (sym dead)))) puts.len
@@ -66,11 +66,11 @@ pub own_stands : (w : Kept) (edits : Edits) (a player : ℕ) (r : Actor) (actors
     → Puts w actors a (record r { look = record r.look { owner = player_of player } })
     → Stands (record w { actors = actors }) (Own a player ∷ edits)
 own_stands w edits a player r actors stands is puts =
-    let told : Told = told_of edits a in
+    let told : History = history_of edits a in
     let later : Actor = record r { look = record r.look { owner = player_of player } } in
     let h : ActorIs w.layout w.cells told r = actor_of w edits a r stands is in
     record_stands w edits (Own a player) a r later actors stands (own_tells edits a player) is refl refl
-    (subst (λ (t : Told). ActorIs w.layout w.cells t later) (sym (own_told edits a player))
+    (subst (λ (t : History). ActorIs w.layout w.cells t later) (sym (own_told edits a player))
     (looks w.layout w.cells told r h told.destroyed player told.dormant told.flush later.look
     (ap (λ (l : Look). record l { owner = player_of player }) h.look))) puts.len puts.each
 
@@ -79,11 +79,11 @@ pub dormant_stands : (w : Kept) (edits : Edits) (a : ℕ) (r : Actor) (actors : 
     → Puts w actors a (record r { look = record r.look { dormant = true } })
     → Stands (record w { actors = actors }) (Dormant a ∷ edits)
 dormant_stands w edits a r actors stands is puts =
-    let told : Told = told_of edits a in
+    let told : History = history_of edits a in
     let later : Actor = record r { look = record r.look { dormant = true } } in
     let h : ActorIs w.layout w.cells told r = actor_of w edits a r stands is in
     record_stands w edits (Dormant a) a r later actors stands (dormant_tells edits a) is refl refl
-    (subst (λ (t : Told). ActorIs w.layout w.cells t later) (sym (dormant_told edits a))
+    (subst (λ (t : History). ActorIs w.layout w.cells t later) (sym (dormant_told edits a))
     (looks w.layout w.cells told r h told.destroyed told.owner true told.flush later.look
     (ap (λ (l : Look). record l { dormant = true }) h.look))) puts.len puts.each
 
@@ -92,11 +92,11 @@ pub wake_stands : (w : Kept) (edits : Edits) (a : ℕ) (r : Actor) (actors : Lis
     → Puts w actors a (record r { look = record r.look { dormant = false } })
     → Stands (record w { actors = actors }) (Wake a ∷ edits)
 wake_stands w edits a r actors stands is puts =
-    let told : Told = told_of edits a in
+    let told : History = history_of edits a in
     let later : Actor = record r { look = record r.look { dormant = false } } in
     let h : ActorIs w.layout w.cells told r = actor_of w edits a r stands is in
     record_stands w edits (Wake a) a r later actors stands (wake_tells edits a) is refl refl
-    (subst (λ (t : Told). ActorIs w.layout w.cells t later) (sym (wake_told edits a))
+    (subst (λ (t : History). ActorIs w.layout w.cells t later) (sym (wake_told edits a))
     (looks w.layout w.cells told r h told.destroyed told.owner false told.flush later.look
     (ap (λ (l : Look). record l { dormant = false }) h.look))) puts.len puts.each
 
@@ -105,11 +105,11 @@ pub flush_stands : (w : Kept) (edits : Edits) (a : ℕ) (r : Actor) (actors : Li
     → Puts w actors a (record r { look = record r.look { flush = r.look.flush + 1 } })
     → Stands (record w { actors = actors }) (Flush a ∷ edits)
 flush_stands w edits a r actors stands is puts =
-    let told : Told = told_of edits a in
+    let told : History = history_of edits a in
     let later : Actor = record r { look = record r.look { flush = r.look.flush + 1 } } in
     let h : ActorIs w.layout w.cells told r = actor_of w edits a r stands is in
     record_stands w edits (Flush a) a r later actors stands (flush_tells edits a) is refl refl
-    (subst (λ (t : Told). ActorIs w.layout w.cells t later) (sym (flush_told edits a))
+    (subst (λ (t : History). ActorIs w.layout w.cells t later) (sym (flush_told edits a))
     (looks w.layout w.cells told r h told.destroyed told.owner told.dormant (told.flush + 1) later.look
     (ap (λ (l : Look). record l { flush = l.flush + 1 }) h.look))) puts.len puts.each
 
@@ -127,10 +127,10 @@ pub give_stands : (w : Kept) (edits : Edits) (a team : ℕ) (r : Actor) (actors 
     → Puts w actors a (record r { given = team })
     → Stands (record w { actors = actors }) (Give a team ∷ edits)
 give_stands w edits a team r actors stands is puts =
-    let h : ActorIs w.layout w.cells (told_of edits a) r = actor_of w edits a r stands is in
+    let h : ActorIs w.layout w.cells (history_of edits a) r = actor_of w edits a r stands is in
     let later : Actor = record r { given = team } in
     record_stands w edits (Give a team) a r later actors stands (give_tells edits a team) is refl refl
-    (subst (λ (t : Told). ActorIs w.layout w.cells t later) (sym (give_told edits a team))
+    (subst (λ (t : History). ActorIs w.layout w.cells t later) (sym (give_told edits a team))
     (record {
       spawned = h.spawned;
       spawn = h.spawn;
@@ -147,7 +147,7 @@ far : (k h : ℕ) → h < 4 → (4 + k == h) ≡ false
 far k h below = grind (arith, nat_tests)
 
 -- cells don't hold the values of handles below 4
-below_cells : (layout : Layout) (cells : List Cell) (told : Told) (r : Actor) (h : ℕ) (v : ℤ) → h < 4
+below_cells : (layout : Layout) (cells : List Cell) (told : History) (r : Actor) (h : ℕ) (v : ℤ) → h < 4
     → (i : ActorIs layout cells told r)
     → (k : ℕ) (p : Prop) → slice_get (class_at (table_in layout) i.spawned.class).props k ≡ Some p
     → HasCell layout ((with_set told h v).set (4 + k)) (told.on (4 + k)) p (slice_get cells (r.first + k))
@@ -161,11 +161,11 @@ pub x_stands : (w : Kept) (edits : Edits) (a : ℕ) (v : ℤ) (r : Actor) (actor
     → Puts w actors a (record r { look = record r.look { x = v } })
     → Stands (record w { actors = actors }) (Set a 1 v ∷ edits)
 x_stands w edits a v r actors stands is puts =
-    let told : Told = told_of edits a in
+    let told : History = history_of edits a in
     let h : ActorIs w.layout w.cells told r = actor_of w edits a r stands is in
     let later : Actor = record r { look = record r.look { x = v } } in
     record_stands w edits (Set a 1 v) a r later actors stands (set_tells edits a 1 v) is refl refl
-    (subst (λ (t : Told). ActorIs w.layout w.cells t later) (sym (set_told edits a 1 v))
+    (subst (λ (t : History). ActorIs w.layout w.cells t later) (sym (set_told edits a 1 v))
     (record {
       spawned = h.spawned;
       spawn = h.spawn;
@@ -181,11 +181,11 @@ pub y_stands : (w : Kept) (edits : Edits) (a : ℕ) (v : ℤ) (r : Actor) (actor
     → Puts w actors a (record r { look = record r.look { y = v } })
     → Stands (record w { actors = actors }) (Set a 2 v ∷ edits)
 y_stands w edits a v r actors stands is puts =
-    let told : Told = told_of edits a in
+    let told : History = history_of edits a in
     let h : ActorIs w.layout w.cells told r = actor_of w edits a r stands is in
     let later : Actor = record r { look = record r.look { y = v } } in
     record_stands w edits (Set a 2 v) a r later actors stands (set_tells edits a 2 v) is refl refl
-    (subst (λ (t : Told). ActorIs w.layout w.cells t later) (sym (set_told edits a 2 v))
+    (subst (λ (t : History). ActorIs w.layout w.cells t later) (sym (set_told edits a 2 v))
     (record {
       spawned = h.spawned;
       spawn = h.spawn;
@@ -199,7 +199,7 @@ y_stands w edits a v r actors stands is puts =
 -- ---- its cells
 
 -- each other cell of the actor is the one from before, and stands for the same
-pub other_cell : (layout : Layout) (cells : List Cell) (told later : Told) (r : Actor) (i : ActorIs layout cells told r)
+pub other_cell : (layout : Layout) (cells : List Cell) (told later : History) (r : Actor) (i : ActorIs layout cells told r)
     (k : ℕ) (p : Prop) (cell : Cell)
     → slice_get (class_at (table_in layout) i.spawned.class).props k ≡ Some p
     → Holds layout (later.set (4 + k)) (later.on (4 + k)) p cell
@@ -249,9 +249,9 @@ pub value_stands : (w : Kept) (edits : Edits) (a k : ℕ) (v : Value) (r : Actor
     → cells ≡ slice_set w.cells (r.first + k) (record cell { value = v })
     → Stands (record w { cells = cells }) (Set a (4 + k) (whole_of v) ∷ edits)
 value_stands w edits a k v r p cell cells stands is at_k fits was set =
-    let told : Told = told_of edits a in
+    let told : History = history_of edits a in
     let z : ℤ = whole_of v in
-    let later : Told = with_set told (4 + k) z in
+    let later : History = with_set told (4 + k) z in
     let i : ActorIs w.layout w.cells told r = actor_of w edits a r stands is in
     let class : r.look.class ≡ i.spawned.class = ap (λ (l : Look). l.class) i.look in
     let of_class = subst (λ (n : ℕ). slice_get (class_at (table_in w.layout) n).props k ≡ Some p) class at_k in
@@ -261,7 +261,7 @@ value_stands w edits a k v r p cell cells stands is at_k fits was set =
     cell_stands w edits (Set a (4 + k) z) a (r.first + k) r cells (record cell { value = v }) stands
     (set_tells edits a (4 + k) z) is
     (omega arith) (omega (arith, within, i.past)) set
-    (subst (λ (t : Told). ActorIs w.layout cells t r) (sym (set_told edits a (4 + k) z))
+    (subst (λ (t : History). ActorIs w.layout cells t r) (sym (set_told edits a (4 + k) z))
     (record {
       spawned = i.spawned;
       spawn = i.spawn;
@@ -284,8 +284,8 @@ pub switch_stands : (w : Kept) (edits : Edits) (a k : ℕ) (on : Bool) (r : Acto
     → cells ≡ slice_set w.cells (r.first + k) (record cell { on = on })
     → Stands (record w { cells = cells }) (Switch a (4 + k) on ∷ edits)
 switch_stands w edits a k on r p cell cells stands is at_k custom was set =
-    let told : Told = told_of edits a in
-    let later : Told = with_switch told (4 + k) on in
+    let told : History = history_of edits a in
+    let later : History = with_switch told (4 + k) on in
     let i : ActorIs w.layout w.cells told r = actor_of w edits a r stands is in
     let class : r.look.class ≡ i.spawned.class = ap (λ (l : Look). l.class) i.look in
     let of_class = subst (λ (n : ℕ). slice_get (class_at (table_in w.layout) n).props k ≡ Some p) class at_k in
@@ -295,7 +295,7 @@ switch_stands w edits a k on r p cell cells stands is at_k custom was set =
     cell_stands w edits (Switch a (4 + k) on) a (r.first + k) r cells (record cell { on = on }) stands
     (switch_tells edits a (4 + k) on) is
     (omega arith) (omega (arith, within, i.past)) set
-    (subst (λ (t : Told). ActorIs w.layout cells t r) (sym (switch_told edits a (4 + k) on))
+    (subst (λ (t : History). ActorIs w.layout cells t r) (sym (switch_told edits a (4 + k) on))
     (record {
       spawned = i.spawned;
       spawn = i.spawn;

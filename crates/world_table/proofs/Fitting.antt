@@ -11,19 +11,19 @@ use Rattle.class_layout.specs.declared.value.Value.{Value}
 use Rattle.world_table.specs.declared.actor.Actor.{Actor}
 use Rattle.world_table.specs.declared.actor.Cell.{Cell}
 use Rattle.world_table.specs.Kept.{Kept, actor_at, record_value}
-use Rattle.world_table.specs.Stands.{Told, told_of, HasCell, ActorIs, Stands}
+use Rattle.world_table.specs.Stands.{History, history_of, HasCell, ActorIs, Stands}
 use Rattle.world_table.proofs.Props.{apart}
 use Rattle.world_table.proofs.Cells.{place_is}
 use Rattle.world_table.proofs.Changing.{actor_of}
 
-cell_fits : (layout : Layout) (told : Told) (k : ℕ) (p : Prop) (v : Value) (o : Option Cell) → IsLayout layout
+cell_fits : (layout : Layout) (told : History) (k : ℕ) (p : Prop) (v : Value) (o : Option Cell) → IsLayout layout
     → HasCell layout (told.set (4 + k)) (told.on (4 + k)) p o → option_map (λ (c : Cell). c.value) o ≡ Some v
     → IsTrue (value_fits p.kind v)
 cell_fits layout told k p v None is h e = absurd h
 cell_fits layout told k p v (Some cell) is h e = subst (λ (x : Value). IsTrue (value_fits p.kind x))
     (same_Some cell.value v e) (h.fits is)
 
-record_fits : (layout : Layout) (cells : List Cell) (told : Told) (r : Actor) (i : ActorIs layout cells told r) (h : ℕ)
+record_fits : (layout : Layout) (cells : List Cell) (told : History) (r : Actor) (i : ActorIs layout cells told r) (h : ℕ)
     (p : Prop) (v : Value)
     → IsLayout layout → prop_at (class_at (table_in layout) i.spawned.class) h ≡ Some p
     → record_value cells r h ≡ Some v
@@ -59,5 +59,5 @@ pub fits_is : (w : Kept) (edits : Edits) (a h : ℕ) (p : Prop) (r : Actor) (o :
 fits_is w edits a h p r None stands is at_h found value low = tt
 fits_is w edits a h p r (Some v) stands is at_h found value low =
     let right = actor_of w edits a r stands (sym found) in
-    record_fits w.layout w.cells (told_of edits a) r right h p v is
+    record_fits w.layout w.cells (history_of edits a) r right h p v is
     (ap (λ (o : Option Spawned). prop_at (class_in (table_in w.layout) o) h) (sym right.spawn) ∙ at_h) (sym value) low

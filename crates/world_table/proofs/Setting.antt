@@ -15,7 +15,7 @@ use Rattle.world_table.specs.declared.actor.Cell.{Cell}
 use Rattle.world_table.specs.declared.edit.Look.{Look}
 use Rattle.world_table.specs.Answers.{settable_at}
 use Rattle.world_table.specs.Kept.{Kept, actor_at, place_in, moved_look}
-use Rattle.world_table.specs.Stands.{Told, told_of, HasCell, Stands}
+use Rattle.world_table.specs.Stands.{History, history_of, HasCell, Stands}
 use Rattle.world_table.proofs.Props.{apart}
 use Rattle.world_table.proofs.Cells.{place_is}
 use Rattle.world_table.proofs.Changing.{actor_of}
@@ -62,7 +62,7 @@ pub own_set : (w : Kept) (edits : Edits) (a h n : ℕ) (v : Value) (r : Actor) (
     → Stands (record w { cells = cells }) (Set a h (whole_of v) ∷ edits)
 own_set w edits a h n v r kind cells stands is place some fits set =
     let class : Class = class_at (table_in w.layout) r.look.class in
-    let told : Told = told_of edits a in
+    let told : History = history_of edits a in
     let at = at_place r h n place in
     let four : h ≡ suc (suc (suc (suc at.k))) = omega (arith, at.handle) in
     let prop = some_prop (settable_at class h) kind some in
@@ -137,7 +137,7 @@ pub own_switch : (w : Kept) (edits : Edits) (a h n : ℕ) (on : Bool) (r : Actor
     → Stands (record w { cells = cells }) (Switch a h on ∷ edits)
 own_switch w edits a h n on r cells stands is place has set =
     let class : Class = class_at (table_in w.layout) r.look.class in
-    let told : Told = told_of edits a in
+    let told : History = history_of edits a in
     let at = at_place r h n place in
     let four : h ≡ suc (suc (suc (suc at.k))) = omega (arith, at.handle) in
     let prop = some_custom (slice_get class.props at.k) (sym (ap (has_switch class) four) ∙ has) in

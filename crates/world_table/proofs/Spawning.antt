@@ -18,7 +18,7 @@ use Rattle.class_layout.specs.declared.class.Segment.{Segment}
 use Rattle.world_table.specs.declared.actor.Actor.{Actor}
 use Rattle.world_table.specs.declared.actor.Cell.{Cell}
 use Rattle.world_table.specs.Kept.{Kept, actor_at, first_cell}
-use Rattle.world_table.specs.Stands.{Told, told_of, untold, Holds, HasCell, ActorIs, IsKept, Stands}
+use Rattle.world_table.specs.Stands.{History, history_of, untold, Holds, HasCell, ActorIs, IsKept, Stands}
 use Rattle.world_table.proofs.Numbers.{same_number, other_number}
 use Rattle.world_table.proofs.Lists.{slice_get-append_left, slice_get-append_right}
 use Rattle.world_table.proofs.Records.{push_each, guid_within}
@@ -141,37 +141,37 @@ spawn_stands w edits n x y c stands at_n = record {
     spawned : Spawned
     spawned = record { class = n; x = x; y = y }
 
-    none_before : (b : ℕ) → b ≡ new → told_of edits b ≡ untold
+    none_before : (b : ℕ) → b ≡ new → history_of edits b ≡ untold
     none_before b e = of (actor_at w.actors b) refl (stands.actors b)
       where
-        of : (o : Option Actor) → actor_at w.actors b ≡ o → IsKept w.layout w.cells (told_of edits b) o
-            → told_of edits b ≡ untold
+        of : (o : Option Actor) → actor_at w.actors b ≡ o → IsKept w.layout w.cells (history_of edits b) o
+            → history_of edits b ≡ untold
         of None f k = k
         of (Some s) f k = absurd (omega (arith, guid_within w.actors b s f))
 
-    told_new : (b : ℕ) → b ≡ new → told_of (Spawn n x y ∷ edits) b ≡ record untold { spawn = Some spawned }
+    told_new : (b : ℕ) → b ≡ new → history_of (Spawn n x y ∷ edits) b ≡ record untold { spawn = Some spawned }
     told_new b e =
         let is : (b == 2 * (spawn_count edits + 1)) ≡ true = let count = stands.count in grind (arith, nat_tests) in
-        ap (λ (t : Bool). record (told_of edits b) { spawn = if t then Some spawned else spawn_of edits b }) is
-        ∙ ap (λ (told : Told). record told { spawn = Some spawned }) (none_before b e)
+        ap (λ (t : Bool). record (history_of edits b) { spawn = if t then Some spawned else spawn_of edits b }) is
+        ∙ ap (λ (told : History). record told { spawn = Some spawned }) (none_before b e)
 
-    told_old : (b : ℕ) → b ≢ new → told_of (Spawn n x y ∷ edits) b ≡ told_of edits b
+    told_old : (b : ℕ) → b ≢ new → history_of (Spawn n x y ∷ edits) b ≡ history_of edits b
     told_old b e =
         let is : (b == 2 * (spawn_count edits + 1)) ≡ false = let count = stands.count in grind (arith, nat_tests) in
-        ap (λ (t : Bool). record (told_of edits b) { spawn = if t then Some spawned else spawn_of edits b }) is
+        ap (λ (t : Bool). record (history_of edits b) { spawn = if t then Some spawned else spawn_of edits b }) is
 
     kept : (b : ℕ) (t : Bool) → (b == new) ≡ t
         → actor_at (w.actors ++ r ∷ []) b ≡ (if t then Some r else actor_at w.actors b)
-        → IsKept w.layout cells (told_of (Spawn n x y ∷ edits) b) (actor_at (w.actors ++ r ∷ []) b)
+        → IsKept w.layout cells (history_of (Spawn n x y ∷ edits) b) (actor_at (w.actors ++ r ∷ []) b)
     kept b true e now =
-        subst (λ (o : Option Actor). IsKept w.layout cells (told_of (Spawn n x y ∷ edits) b) o) (sym now)
-        (subst (λ (told : Told). ActorIs w.layout cells told r) (sym (told_new b (same_number b new e)))
+        subst (λ (o : Option Actor). IsKept w.layout cells (history_of (Spawn n x y ∷ edits) b) o) (sym now)
+        (subst (λ (told : History). ActorIs w.layout cells told r) (sym (told_new b (same_number b new e)))
         (spawned_is w.layout w.cells n x y c at_n))
     kept b false e now =
-        subst (λ (o : Option Actor). IsKept w.layout cells (told_of (Spawn n x y ∷ edits) b) o) (sym now)
-        (subst (λ (told : Told). IsKept w.layout cells told (actor_at w.actors b))
+        subst (λ (o : Option Actor). IsKept w.layout cells (history_of (Spawn n x y ∷ edits) b) o) (sym now)
+        (subst (λ (told : History). IsKept w.layout cells told (actor_at w.actors b))
         (sym (told_old b (other_number b new e)))
-        (other_cells w.layout w.cells cells (told_of edits b) (actor_at w.actors b) (stands.actors b)
+        (other_cells w.layout w.cells cells (history_of edits b) (actor_at w.actors b) (stands.actors b)
         (omega (arith, length-append w.cells (map first_cell c.props)))
         (λ s s_is m low high.
         slice_get-append_left w.cells (map first_cell c.props) m

@@ -14,7 +14,7 @@ use Rattle.world_table.specs.Answers.{player_of}
 use Rattle.world_table.specs.Kept.{Kept, actor_at, seat_at, has_pair}
 
 -- what edits tell of an actor: how it was spawned, and what came since
-pub record Told : Type 0 where
+pub record History : Type 0 where
   pub spawn : Option Spawned
   pub destroyed : Bool
   pub set : (handle : ℕ) → Option ℤ
@@ -25,8 +25,8 @@ pub record Told : Type 0 where
   pub given : ℕ
 
 -- what these edits tell of an actor
-abbrev pub told_of : Edits → (actor : ℕ) → Told
-told_of edits a = record {
+abbrev pub history_of : Edits → (actor : ℕ) → History
+history_of edits a = record {
   spawn = spawn_of edits a;
   destroyed = list_any (destroys a) edits;
   set = λ h. newest_of (value_in a h) edits;
@@ -38,7 +38,7 @@ told_of edits a = record {
 }
 
 -- what edits tell of an actor that they don't name
-abbrev pub untold : Told
+abbrev pub untold : History
 untold = record {
   spawn = None;
   destroyed = false;
@@ -51,11 +51,11 @@ untold = record {
 }
 
 -- the value of a handle by what was told
-abbrev pub told_value : Table → Told → (handle : ℕ) → ℤ
+abbrev pub told_value : Table → History → (handle : ℕ) → ℤ
 told_value table told h = unwrap_or (told.set h) (spawned_value table told.spawn h)
 
 -- how an actor stands by what was told
-abbrev pub told_look : Table → Told → Spawned → Look
+abbrev pub told_look : Table → History → Spawned → Look
 told_look table told spawned = record {
   class = spawned.class;
   alive = is_some told.spawn && not told.destroyed;
@@ -79,7 +79,7 @@ HasCell layout set switch p None = ⊥
 HasCell layout set switch p (Some cell) = Holds layout set switch p cell
 
 -- the record is right about all that was told of its actor, and so are the cells that it has
-pub record ActorIs (layout : Layout) (cells : List Cell) (told : Told) (r : Actor) : Type 0 where
+pub record ActorIs (layout : Layout) (cells : List Cell) (told : History) (r : Actor) : Type 0 where
   pub spawned : Spawned
   pub spawn : told.spawn ≡ Some spawned
   pub look : r.look ≡ told_look (table_in layout) told spawned
@@ -90,7 +90,7 @@ pub record ActorIs (layout : Layout) (cells : List Cell) (told : Told) (r : Acto
       → HasCell layout (told.set (4 + k)) (told.on (4 + k)) p (slice_get cells (r.first + k))
 
 -- an actor without a record is named by no edit
-abbrev pub IsKept : Layout → List Cell → Told → Option Actor → Type 0
+abbrev pub IsKept : Layout → List Cell → History → Option Actor → Type 0
 IsKept layout cells told None = told ≡ untold
 IsKept layout cells told (Some r) = ActorIs layout cells told r
 
@@ -106,7 +106,7 @@ seat_of edits player = record {
 -- apart, and seats and pairs are those of the edits
 pub record Stands (w : Kept) (edits : Edits) : Type 0 where
   pub count : length w.actors ≡ spawn_count edits
-  pub actors : (a : ℕ) → IsKept w.layout w.cells (told_of edits a) (actor_at w.actors a)
+  pub actors : (a : ℕ) → IsKept w.layout w.cells (history_of edits a) (actor_at w.actors a)
   pub apart : (a b : ℕ) (r s : Actor) → a < b → actor_at w.actors a ≡ Some r → actor_at w.actors b ≡ Some s
       → r.past ≤ s.first
   pub seats : (player : ℕ) → seat_at w.seats player ≡ seat_of edits player

@@ -1,5 +1,5 @@
 use Rattle.std.proofs.Common.{◌∷◌, refl}
-use Rattle.replication_model.specs.Feed.{Ended}
+use Rattle.connection_model.specs.Feed.{Ended}
 use Rattle.ack_book.proofs.KeepsSteps.{like_keeps}
 use Rattle.ack_book.proofs.laws.ending_is_unseen.Goals as goal
 

@@ -1,5 +1,5 @@
 use Rattle.std.proofs.Common.{◌∷◌, refl}
-use Rattle.replication_model.specs.Feed.{Took, Heard}
+use Rattle.connection_model.specs.Feed.{Took, Heard}
 use Rattle.ack_book.proofs.KeepsSteps.{like_keeps}
 use Rattle.ack_book.proofs.laws.heard_is_unseen.Goals as goal
 

@@ -1,5 +1,5 @@
 use Rattle.std.proofs.Common.{◌∷◌, refl}
-use Rattle.replication_model.specs.Feed.{Waits}
+use Rattle.connection_model.specs.Feed.{Waits}
 use Rattle.ack_book.proofs.KeepsSteps.{like_keeps}
 use Rattle.ack_book.proofs.laws.waiting_is_unseen.Goals as goal
 

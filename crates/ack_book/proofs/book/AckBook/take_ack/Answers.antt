@@ -3,7 +3,7 @@ use Rattle.std.proofs.lemmas.Int.{ints}
 use Rattle.std.proofs.lemmas.List.{get_or_read_under}
 use lib.IntN.{nat_abs}
 use Rattle.protocol_model.specs.Bits.{near}
-use Rattle.replication_model.specs.Feed.{Took}
+use Rattle.connection_model.specs.Feed.{Took}
 use Rattle.ack_book.specs.Book.{Book}
 use Rattle.ack_book.specs.Keeps.{Keeps}
 use Rattle.ack_book.specs.contracts.book.AckBook.{the_view}

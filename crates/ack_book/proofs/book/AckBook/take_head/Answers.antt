@@ -4,8 +4,8 @@ use Rattle.std.proofs.lemmas.Int.{ints}
 use Rattle.std.proofs.lemmas.List.{get_or_read_under}
 use lib.IntN.{nat_abs}
 use Rattle.protocol_model.specs.Bits.{near}
-use Rattle.replication_model.specs.Feed.{Took, Told}
-use Rattle.replication_model.specs.Fates.{high_of, history_of}
+use Rattle.connection_model.specs.Feed.{Took, Told}
+use Rattle.connection_model.specs.Fates.{high_of, history_of}
 use Rattle.bit_io.specs.HeadOf.{head_of as head_told}
 use Rattle.ack_book.specs.Book.{Book}
 use Rattle.ack_book.specs.Keeps.{Keeps}

@@ -9,14 +9,15 @@ use Rattle.protocol_model.specs.PacketReading.{packet_of}
 use Rattle.protocol_model.specs.Payload.{Message, actor_of}
 use Rattle.protocol_model.specs.declared.Cause.{Cause}
 use Rattle.protocol_model.specs.declared.Cause.TheVariants.{BadAck, BadChannel, BadPart, BadPayload, Overrun}
-use Rattle.replication_model.specs.Feed.{End, Past, Took, Ended, ByCause, Entry, Told, Acked, Heard, Delivered, has_ended}
+use Rattle.connection_model.specs.Feed.{End, Past, Took, Ended, ByCause, Entry, Told, Acked, Heard, Delivered, has_ended}
 use Rattle.protocol_model.specs.Side.{Side, AtServer, AtClient}
-use Rattle.replication_model.specs.Fates.{top_of, number_near, is_new, named_by, high_of, last_sent}
-use Rattle.replication_model.specs.Windows.{Received, received_on, offer_of, number_as, Offer, Repeat, Ready, Held, ready_bunches, applied_of, kept_of, held_count, part_fault, joined_bits, first_of, ends_payload}
-use Rattle.replication_model.specs.State.{holds}
-use Rattle.replication_model.specs.Copies.{copy_on, copy_channel, is_on}
-use Rattle.replication_model.specs.PayloadReading.{payload_at}
+use Rattle.connection_model.specs.Fates.{top_of, number_near, is_new, named_by, high_of, last_sent}
+use Rattle.connection_model.specs.Windows.{Received, received_on, offer_of, number_as, Offer, Repeat, Ready, Held, ready_bunches, applied_of, kept_of, held_count, part_fault, joined_bits, first_of, ends_payload}
+use Rattle.connection_model.specs.State.{holds}
+use Rattle.connection_model.specs.Copies.{copy_on, copy_channel, is_on}
+use Rattle.connection_model.specs.PayloadReading.{payload_at}
 use Rattle.std.specs.Bool.{then_some}
+use Rattle.protocol_model.specs.Limits.{held_limit}
 use Rattle.protocol_model.specs.Search.{newest_of}
 use Rattle.protocol_model.specs.declared.Verdict.{Verdict}
 use Rattle.protocol_model.specs.declared.Verdict.TheVariants.{Taken, Malformed, Old, Closed, Dead}
@@ -110,7 +111,7 @@ bunches_result end past kept (b ∷ bunches) = elim (bunch_result end past kept 
 
 -- the connection holds 512 bunches already
 abbrev pub overrun_cause : Past → (channel : ℕ) → Option Cause
-overrun_cause past ch = then_some (nat_le 512 (held_count past)) (Overrun ch)
+overrun_cause past ch = then_some (nat_le held_limit (held_count past)) (Overrun ch)
 
 -- a reliable bunch with the next number goes with the held ones that follow it
 abbrev pub reliable_result : End → Past → Bunch → List Received → Offer → Progress

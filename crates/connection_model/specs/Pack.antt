@@ -1,19 +1,20 @@
 -- What a tick does: closes, packets within the budget, opens and updates, an empty packet, and the stall.
 use Rattle.std.specs.Prelude.{ℕ, ◌+◌, ◌-◌, ◌*◌, ◌/◌, ◌%◌, List, [], ◌∷◌, ◌++◌, map, length, reverse, Bool, true, false, not, ◌&&◌, ◌||◌, nat_lt, nat_le, Option, Some, None, unwrap_or, if◌then◌else◌}
 use Rattle.std.specs.List.{fold, flat_map, range_with_len, sum_by}
+use Rattle.protocol_model.specs.Limits.{packet_modulus, unresolved_limit}
 use Rattle.protocol_model.specs.Value.{Pair}
 use Rattle.protocol_model.specs.declared.Version.{Version}
 use Rattle.protocol_model.specs.declared.Version.TheVariants.{One, Two}
 use Rattle.protocol_model.specs.Packet.{Rec, Ack, Sends, Packet, rec_bits, start_bits}
 use Rattle.protocol_model.specs.Payload.{Message, Closes, Gone, parts_of}
-use Rattle.replication_model.specs.Feed.{End, Past, Deed, Ticked, Sent, Ended, ByStall, Item, Owed, Carries, Loose, has_ended, ticks_of, tick_count, sight_of, deeds_since_tick, seen_in, is_relevant_in}
+use Rattle.connection_model.specs.Feed.{End, Past, Deed, Ticked, Sent, Ended, ByStall, Item, Owed, Carries, Loose, has_ended, ticks_of, tick_count, sight_of, deeds_since_tick, seen_in, is_relevant_in}
 use Rattle.protocol_model.specs.Sight.{Seen}
-use Rattle.replication_model.specs.Fates.{last_sent, unresolved_count, taken_of, head_of}
-use Rattle.replication_model.specs.Bunches.{made_count, room, made_bunch, after_making}
-use Rattle.replication_model.specs.State.{state_of, is_open, is_opened, is_asleep, index_of, free_index, opened_actors}
-use Rattle.replication_model.specs.Carry.{due_pairs}
-use Rattle.replication_model.specs.Settled.{is_settled_as}
-use Rattle.replication_model.specs.Items.{first_items, actors_by_score, wants_open, open_message, update_message, update_pairs, loose_item}
+use Rattle.connection_model.specs.Fates.{last_sent, unresolved_count, taken_of, head_of}
+use Rattle.connection_model.specs.Bunches.{made_count, room, made_bunch, after_making}
+use Rattle.connection_model.specs.State.{state_of, is_open, is_opened, is_asleep, index_of, free_index, opened_actors}
+use Rattle.connection_model.specs.Carry.{due_pairs}
+use Rattle.connection_model.specs.Settled.{is_settled_as}
+use Rattle.connection_model.specs.Items.{first_items, actors_by_score, wants_open, open_message, update_message, update_pairs, loose_item}
 use Rattle.protocol_model.specs.Search.{newest_of, items_since}
 
 -- ---- closes
@@ -60,14 +61,14 @@ pub record Packing : Type 0 where
 
 -- an item as it is spelled
 abbrev pub rec_of : Item → Rec
-rec_of (Owed number) = Ack (number % 16384)
+rec_of (Owed number) = Ack (number % packet_modulus)
 rec_of (Carries channel number bunch) = Sends bunch
 rec_of (Loose message bunch) = Sends bunch
 
 -- the packet of these items with this number
-abbrev pub packet_of : End → Past → (number : ℕ) → List Item → Packet
-packet_of end past number items =
-    record { number = number % 16384; head = head_of end.version past; recs = map rec_of items }
+abbrev pub packet_carrying : End → Past → (number : ℕ) → List Item → Packet
+packet_carrying end past number items =
+    record { number = number % packet_modulus; head = head_of end.version past; recs = map rec_of items }
 
 -- its bits without the end bit
 abbrev pub packet_length : End → Past → List Item → ℕ
@@ -178,7 +179,7 @@ after_sending past items = Sent (last_sent past + 1) (tick_count past) items ∷
 
 -- 4,096 open packets end the end
 abbrev pub after_stall : Past → Past
-after_stall past = if nat_le 4096 (unresolved_count past) then Ended ByStall ∷ past else past
+after_stall past = if nat_le unresolved_limit (unresolved_count past) then Ended ByStall ∷ past else past
 
 -- the past with this tick's packets, and with the stall where one comes
 abbrev pub after_packing : End → (before : Past) → Packing → Past

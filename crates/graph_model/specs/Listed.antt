@@ -1,14 +1,11 @@
--- Counts that bound the work of gathering and of a tick.
-use Rattle.std.specs.Prelude.{ℕ, ◌-◌, List, Bool, true, not, ◌&&◌, ◌||◌, count_by, sum_by, filter}
-use Rattle.std.specs.List.{list_any}
-use Rattle.protocol_model.specs.Value.{Table, handle_count}
+-- Which actors the nodes list for a player, and how many.
+use Rattle.std.specs.Prelude.{ℕ, Bool, true, ◌&&◌, ◌||◌, count_by}
+use Rattle.protocol_model.specs.Value.{Table}
 use Rattle.protocol_model.specs.declared.Reach.{Reach}
 use Rattle.protocol_model.specs.declared.Reach.TheVariants.{Always, Near, Owner}
 use Rattle.protocol_model.specs.World.{Edits, actors_of, class_of, lives, value_of, owns, viewer_of, is_added}
-use Rattle.protocol_model.specs.Sight.{is_relevant, are_teamed, seen_of}
-use Rattle.replication_model.specs.Feed.{Past, has_ended}
-use Rattle.replication_model.specs.Items.{is_quiet}
-use Rattle.protocol_model.specs.Nodes.{touches}
+use Rattle.protocol_model.specs.Sight.{are_teamed}
+use Rattle.graph_model.specs.Nodes.{touches}
 
 -- the square of the actor touches the cell of the player's viewer
 abbrev pub touches_viewer : (cull : ℕ) → Table → Edits → (player actor : ℕ) → Bool
@@ -31,19 +28,3 @@ is_listed table edits player a = lives edits a && listed_as (class_of table edit
 -- how many actors the nodes list for the player
 abbrev pub listed_count : Table → Edits → (player : ℕ) → ℕ
 listed_count table edits player = count_by (is_listed table edits player) (actors_of edits)
-
--- a connection: its player, and the past of its server's end
-abbrev pub Connection : Type 0
-Connection = ℕ × Past
-
--- relevant to a connection that hasn't ended, and not quiet there
-abbrev pub is_awake_for : Table → Edits → (actor : ℕ) → Connection → Bool
-is_awake_for table edits a connection =
-    not (has_ended connection.1) && is_relevant table edits connection.0 a
-    && not (is_quiet connection.1 (seen_of table edits connection.0 a))
-
--- of each such actor, counted once, the handles less one
-abbrev pub cell_count : Table → Edits → List Connection → ℕ
-cell_count table edits connections =
-    sum_by (λ a. handle_count (class_of table edits a) - 1)
-    (filter (λ a. list_any (is_awake_for table edits a) connections) (actors_of edits))

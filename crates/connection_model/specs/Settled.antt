@@ -4,11 +4,11 @@ use Rattle.std.specs.List.{list_all}
 use Rattle.protocol_model.specs.Value.{Table}
 use Rattle.protocol_model.specs.World.{Edits}
 use Rattle.protocol_model.specs.Sight.{is_relevant, seen_of}
-use Rattle.replication_model.specs.Feed.{Past, has_ended}
+use Rattle.connection_model.specs.Feed.{Past, has_ended}
 use Rattle.protocol_model.specs.Sight.{Seen}
-use Rattle.replication_model.specs.Bunches.{span}
-use Rattle.replication_model.specs.State.{state_of, is_opened, index_of}
-use Rattle.replication_model.specs.Carry.{updatable_pairs, is_carried}
+use Rattle.connection_model.specs.Bunches.{span}
+use Rattle.connection_model.specs.State.{state_of, is_opened, index_of}
+use Rattle.connection_model.specs.Carry.{updatable_pairs, is_carried}
 
 -- every bunch made on the index that the actor holds has arrived
 abbrev pub is_clear : Past → Option ℕ → Bool

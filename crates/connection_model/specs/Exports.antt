@@ -3,8 +3,8 @@ use Rattle.std.specs.Prelude.{ℕ, ◌==◌, List, Bool, false, not, ◌&&◌, f
 use Rattle.std.specs.List.{list_any}
 use Rattle.protocol_model.specs.Value.{Segment, Class}
 use Rattle.protocol_model.specs.Payload.{Message, Opens, parts_of}
-use Rattle.replication_model.specs.Feed.{Past, Deed, Made}
-use Rattle.replication_model.specs.Bunches.{have_arrived}
+use Rattle.connection_model.specs.Feed.{Past, Deed, Made}
+use Rattle.connection_model.specs.Bunches.{have_arrived}
 
 -- the message is an open with the segment
 abbrev pub exports_segment : ℕ → Message → Bool

@@ -3,10 +3,10 @@ use Rattle.std.specs.Prelude.{◌≡◌, refl, List, [], ◌∷◌}
 use Rattle.protocol_model.specs.Numbers.{leading_groups}
 use Rattle.protocol_model.specs.Bits.{int_width, digits, packed_in, bytes_in}
 use Rattle.protocol_model.specs.declared.Version.TheVariants.{One}
-use Rattle.replication_model.specs.Feed.{End, Event, Tick, Got, Ticked, Sent, Took, Owed, Past, Ended, ByStall}
+use Rattle.connection_model.specs.Feed.{End, Event, Tick, Got, Ticked, Sent, Took, Owed, Past, Ended, ByStall}
 use Rattle.protocol_model.specs.Side.{AtClient}
-use Rattle.replication_model.specs.Past.{past_of, out_of}
-use Rattle.replication_model.specs.Pack.{after_tick}
+use Rattle.connection_model.specs.Past.{past_of, out_of}
+use Rattle.connection_model.specs.Pack.{after_tick}
 
 -- the client's past of three events: a tick, an empty packet, a tick that acknowledges it
 client : End

@@ -2,12 +2,13 @@
 use Rattle.std.specs.Prelude.{ℕ, zero, suc, ◌==◌, List, [], ◌∷◌, ◌++◌, length, reverse, Bool, true, false, not, ◌&&◌, ◌||◌, nat_le, Option, Some, None, is_none, find, option_map, option_and_then, if◌then◌else◌}
 use Rattle.std.specs.List.{list_all, fold, flat_map}
 use Rattle.std.specs.Str.{bytes_eq}
+use Rattle.protocol_model.specs.Limits.{depth_limit, name_limit}
 use Rattle.protocol_model.specs.Value.{Segment, Class, Table}
 use Rattle.protocol_model.specs.Payload.{Opens}
 use Rattle.protocol_model.specs.declared.Cause.{Cause}
 use Rattle.protocol_model.specs.declared.Cause.TheVariants.{UnknownGuid, Clash, NamesFull}
-use Rattle.replication_model.specs.Feed.{Past, Delivered}
-use Rattle.replication_model.specs.Copies.{delivered_of}
+use Rattle.connection_model.specs.Feed.{Past, Delivered}
+use Rattle.connection_model.specs.Copies.{delivered_of}
 
 -- an ASCII letter
 abbrev pub is_letter : ℕ → Bool
@@ -18,9 +19,9 @@ abbrev pub is_name_char : ℕ → Bool
 is_name_char c = is_letter c || (nat_le 48 c && nat_le c 57) || c == 95
 
 -- letters, digits and underscores, and a letter first
-abbrev pub is_name : List ℕ → Bool
-is_name [] = false
-is_name (c ∷ cs) = is_letter c && list_all is_name_char cs
+abbrev pub is_segment_name : List ℕ → Bool
+is_segment_name [] = false
+is_segment_name (c ∷ cs) = is_letter c && list_all is_name_char cs
 
 -- what was learnt under the guid
 abbrev pub name_known : List Segment → ℕ → Option Segment
@@ -40,7 +41,7 @@ abbrev pub learn_fault : List Segment → Segment → Option Cause
 learn_fault names s =
     if not (s.outer == 0) && is_none (name_known names s.outer) then Some (UnknownGuid s.outer)
     else if not (agrees s (name_known names s.guid)) then Some (Clash s.guid)
-    else if is_none (name_known names s.guid) && nat_le 65536 (length names) then Some NamesFull
+    else if is_none (name_known names s.guid) && nat_le name_limit (length names) then Some NamesFull
     else None
 
 -- a known segment isn't learnt twice
@@ -76,4 +77,4 @@ same_names (s ∷ path) (n ∷ names) = bytes_eq s.name n && same_names path nam
 abbrev pub class_named : Table → List Segment → ℕ → Option Class
 class_named table names g =
     option_and_then (λ (path : List (List ℕ)). find (λ (class : Class). same_names class.path path) table)
-    (path_up names 8 g)
+    (path_up names depth_limit g)

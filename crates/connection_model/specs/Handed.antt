@@ -3,9 +3,9 @@ use Rattle.std.specs.Prelude.{ℕ, ◌==◌, List, length, take, reverse, Bool, 
 use Rattle.protocol_model.specs.Value.{Arg}
 use Rattle.protocol_model.specs.World.{Edits, lives, owns}
 use Rattle.protocol_model.specs.Payload.{Message, Calls}
-use Rattle.replication_model.specs.Feed.{End, Past, Deed, Made, Delivered}
-use Rattle.replication_model.specs.Copies.{delivered_of}
-use Rattle.replication_model.specs.Verdict.{after_got}
+use Rattle.connection_model.specs.Feed.{End, Past, Deed, Made, Delivered}
+use Rattle.connection_model.specs.Copies.{delivered_of}
+use Rattle.connection_model.specs.Verdict.{after_got}
 use Rattle.protocol_model.specs.declared.CallVerdict.{CallVerdict}
 use Rattle.protocol_model.specs.declared.CallVerdict.TheVariants.{Run, NotOwner, Stale}
 

@@ -1,9 +1,9 @@
 -- A client's copies: the values last applied.
 use Rattle.std.specs.Prelude.{ℕ, ◌==◌, List, [], Bool, false, not, ◌&&◌, Option, Some, None, filter, filter_map, find, is_some, unwrap_or, option_map, if◌then◌else◌, ℤ, pos}
 use Rattle.std.specs.List.{flat_map}
-use Rattle.protocol_model.specs.Value.{Pair, Class, value_at, initial_value}
+use Rattle.protocol_model.specs.Value.{Pair, Class, value_among, initial_value}
 use Rattle.protocol_model.specs.Payload.{Opens, Closes, Updates, Gone}
-use Rattle.replication_model.specs.Feed.{Past, Deed, Took, Delivered}
+use Rattle.connection_model.specs.Feed.{Past, Deed, Took, Delivered}
 use Rattle.std.specs.Bool.{then_some}
 use Rattle.protocol_model.specs.Search.{newest_of, items_since, ascending_numbers}
 
@@ -51,7 +51,7 @@ copy_channel past a = unwrap_or (newest_of (channel_said a) (since_removed past 
 
 -- the value of the handle in a list that was applied to the actor
 abbrev pub value_for : (actor handle of : ℕ) → List Pair → Option ℤ
-value_for a h actor values = if actor == a then value_at values h else None
+value_for a h actor values = if actor == a then value_among values h else None
 
 -- the value of the handle that a payload applied to the actor's copy
 abbrev pub value_applied : (actor handle : ℕ) → Delivered → Option ℤ

@@ -6,12 +6,13 @@ use Rattle.protocol_model.specs.declared.Way.{Way}
 use Rattle.protocol_model.specs.declared.Way.TheVariants.{Client}
 use Rattle.protocol_model.specs.Payload.{Message, Calls, parts_of}
 use Rattle.protocol_model.specs.Side.{Side, AtServer, AtClient}
-use Rattle.replication_model.specs.Feed.{Past, Deed, Waits, has_ended, sight_of, deeds_since_tick, seen_in}
+use Rattle.connection_model.specs.Feed.{Past, Deed, Waits, has_ended, sight_of, deeds_since_tick, seen_in}
 use Rattle.protocol_model.specs.Sight.{Seen}
-use Rattle.replication_model.specs.Bunches.{room, after_making}
-use Rattle.replication_model.specs.State.{state_of, is_opened, index_of, opened_class}
-use Rattle.replication_model.specs.Copies.{copy_class, copy_channel, copy_value}
+use Rattle.connection_model.specs.Bunches.{room, after_making}
+use Rattle.connection_model.specs.State.{state_of, is_opened, index_of, opened_class}
+use Rattle.connection_model.specs.Copies.{copy_class, copy_channel, copy_value}
 use Rattle.std.specs.Bool.{then_some}
+use Rattle.protocol_model.specs.Limits.{waiting_limit}
 use Rattle.protocol_model.specs.declared.CallAnswer.{CallAnswer}
 use Rattle.protocol_model.specs.declared.CallAnswer.TheVariants.{Queued, Dead, NotOpen, NotOwner, WindowFull}
 
@@ -67,7 +68,7 @@ waiting_of past = reverse (filter_map waits_in (deeds_since_tick past))
 -- the parts don't fit into the room of the channel, or 256 unreliable calls wait
 abbrev pub is_full : Past → (channel : ℕ) → (reliable : Bool) → Message → Bool
 is_full past ch true message = nat_lt (room past ch) (parts_of message)
-is_full past ch false message = nat_le 256 (length (waiting_of past))
+is_full past ch false message = nat_le waiting_limit (length (waiting_of past))
 
 -- the answer where the end is alive, by the channel and the call that are meant
 abbrev pub answer_for : Side → Past → (actor number : ℕ) → List Arg → Option ℕ → Option Call → CallAnswer

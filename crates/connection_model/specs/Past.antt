@@ -1,10 +1,10 @@
 -- All that an end did, by recursion on what it heard. The newest event stands first.
 use Rattle.std.specs.Prelude.{ℕ, List, [], ◌∷◌, ◌++◌}
 use Rattle.protocol_model.specs.Packet.{spelling_of}
-use Rattle.replication_model.specs.Feed.{End, Event, Tick, Got, Call, Past, Sent}
-use Rattle.replication_model.specs.Pack.{after_tick, packet_of}
-use Rattle.replication_model.specs.Verdict.{after_got}
-use Rattle.replication_model.specs.CallAnswers.{after_call}
+use Rattle.connection_model.specs.Feed.{End, Event, Tick, Got, Call, Past, Sent}
+use Rattle.connection_model.specs.Pack.{after_tick, packet_carrying}
+use Rattle.connection_model.specs.Verdict.{after_got}
+use Rattle.connection_model.specs.CallAnswers.{after_call}
 
 -- the past after one more event
 abbrev pub after_event : End → Past → Event → Past
@@ -21,7 +21,7 @@ past_of end (event ∷ feed) = after_event end (past_of end feed) event
 abbrev pub sent_bytes : End → Past → List (List ℕ)
 sent_bytes end [] = []
 sent_bytes end (Sent number t items ∷ past) =
-    sent_bytes end past ++ spelling_of end.version (packet_of end past number items) ∷ []
+    sent_bytes end past ++ spelling_of end.version (packet_carrying end past number items) ∷ []
 sent_bytes end (deed ∷ past) = sent_bytes end past
 
 -- an end's packets are determined by its own feed

@@ -5,8 +5,9 @@ use Rattle.protocol_model.specs.Bits.{near, fixed_bits, number_of}
 use Rattle.protocol_model.specs.declared.Version.{Version}
 use Rattle.protocol_model.specs.declared.Version.TheVariants.{One, Two}
 use Rattle.protocol_model.specs.Packet.{Head}
-use Rattle.replication_model.specs.Feed.{Past, Deed, Sent, Took, Entry, Told, Acked, Heard, deeds_since_tick}
+use Rattle.connection_model.specs.Feed.{Past, Deed, Sent, Took, Entry, Told, Acked, Heard, deeds_since_tick}
 use Rattle.std.specs.Bool.{then_some}
+use Rattle.protocol_model.specs.Limits.{owed_limit, packet_modulus}
 use Rattle.protocol_model.specs.Search.{is_among, greatest_of, least_from}
 use Rattle.protocol_model.specs.declared.Fate.{Fate}
 use Rattle.protocol_model.specs.declared.Fate.TheVariants.{Open, Arrived, Lost}
@@ -36,7 +37,7 @@ is_new past n = int_lt (pos (top_of past)) (number_near past n)
 
 -- the numbers owed an acknowledgement: those taken since the last tick, the newest 512, oldest first
 abbrev pub owed_of : Version → Past → List ℕ
-owed_of One past = reverse (take 512 (taken_of (deeds_since_tick past)))
+owed_of One past = reverse (take owed_limit (taken_of (deeds_since_tick past)))
 owed_of Two past = []
 
 -- ---- what was moved
@@ -62,8 +63,8 @@ history_of head = flat_map (λ word. fixed_bits 32 word) head.words
 
 -- the numbers that an entry names, descending, where `high` is the greatest moved before
 abbrev pub named_by : Entry → (high : ℕ) → List ℤ
-named_by (Acked number) high = near number (pos high) 16384 ∷ []
-named_by (Told head) high = named_numbers (near head.top (pos high) 16384) (history_of head)
+named_by (Acked number) high = near number (pos high) packet_modulus ∷ []
+named_by (Told head) high = named_numbers (near head.top (pos high) packet_modulus) (history_of head)
 named_by (Heard bunch) high = []
 
 -- the number, if it is above high
@@ -139,6 +140,6 @@ abbrev pub head_of : Version → Past → Head
 head_of One past = record { top = 0; words = [] }
 head_of Two past =
     record {
-      top = top_of past % 16384;
+      top = top_of past % packet_modulus;
       words = map (λ w. history_word past (top_of past - 32 * w)) (range_with_len 0 (word_count past));
     }

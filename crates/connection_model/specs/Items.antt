@@ -5,15 +5,16 @@ use Rattle.protocol_model.specs.Value.{Pair}
 use Rattle.protocol_model.specs.Packet.{Bunch}
 use Rattle.protocol_model.specs.declared.Part.TheVariants.{Whole}
 use Rattle.protocol_model.specs.Payload.{Message, Opens, Closes, Updates, actor_of, message_bits}
-use Rattle.replication_model.specs.Feed.{End, Past, Deed, Made, Sent, Item, Owed, Carries, Loose, ticks_of, tick_count, sight_of, seen_in, is_relevant_in}
+use Rattle.connection_model.specs.Feed.{End, Past, Deed, Made, Sent, Item, Owed, Carries, Loose, ticks_of, tick_count, sight_of, seen_in, is_relevant_in}
 use Rattle.protocol_model.specs.Side.{Side}
 use Rattle.protocol_model.specs.Sight.{Seen}
-use Rattle.replication_model.specs.Fates.{owed_of}
-use Rattle.replication_model.specs.Bunches.{channels_of, made_count, is_due, made_bunch, is_opening}
-use Rattle.replication_model.specs.State.{state_of, is_closed, is_asleep}
-use Rattle.replication_model.specs.Exports.{needed_segments}
-use Rattle.replication_model.specs.CallAnswers.{call_channel, waiting_of}
+use Rattle.connection_model.specs.Fates.{owed_of}
+use Rattle.connection_model.specs.Bunches.{channels_of, made_count, is_due, made_bunch, is_opening}
+use Rattle.connection_model.specs.State.{state_of, is_closed, is_asleep}
+use Rattle.connection_model.specs.Exports.{needed_segments}
+use Rattle.connection_model.specs.CallAnswers.{call_channel, waiting_of}
 use Rattle.std.specs.Bool.{then_some}
+use Rattle.protocol_model.specs.Limits.{update_bits}
 use Rattle.protocol_model.specs.Search.{newest_of, oldest_of, longest_prefix, in_order}
 
 -- ---- reliable bunches
@@ -148,4 +149,4 @@ update_message seen pairs = Updates seen.actor seen.class pairs
 -- the longest prefix of the due handles whose payload has at most 6,000 bits
 abbrev pub update_pairs : Seen → List Pair → List Pair
 update_pairs seen due =
-    longest_prefix (λ pairs. nat_le (length (message_bits (update_message seen pairs))) 6000) (length due) due
+    longest_prefix (λ pairs. nat_le (length (message_bits (update_message seen pairs))) update_bits) (length due) due

@@ -2,14 +2,14 @@
 use Rattle.std.specs.Prelude.{ℕ, ◌==◌, List, [], Bool, true, false, not, ◌&&◌, ◌||◌, Option, Some, None, filter, unwrap_or, option_map, if◌then◌else◌, ℤ}
 use Rattle.std.specs.Ordering.{int_eq}
 use Rattle.protocol_model.specs.Cond.{updatable}
-use Rattle.protocol_model.specs.Value.{Prop, Pair, value_at, prop_at}
+use Rattle.protocol_model.specs.Value.{Prop, Pair, value_among, prop_at}
 use Rattle.protocol_model.specs.Payload.{Message, Opens, Updates}
-use Rattle.replication_model.specs.Feed.{Past, Deed, Made, Sent, Item, Loose}
+use Rattle.connection_model.specs.Feed.{Past, Deed, Made, Sent, Item, Loose}
 use Rattle.protocol_model.specs.Sight.{Seen}
 use Rattle.protocol_model.specs.declared.Fate.{Fate}
 use Rattle.protocol_model.specs.declared.Fate.TheVariants.{Open, Arrived}
-use Rattle.replication_model.specs.Fates.{fate_of, is_arrived, is_lost}
-use Rattle.replication_model.specs.State.{state_of, is_opened}
+use Rattle.connection_model.specs.Fates.{fate_of, is_arrived, is_lost}
+use Rattle.connection_model.specs.State.{state_of, is_opened}
 use Rattle.std.specs.Bool.{then_some}
 use Rattle.protocol_model.specs.Search.{newest_of, or_else, items_since}
 
@@ -24,12 +24,12 @@ carry_in packet value = option_map (λ (v : ℤ). record { packet = packet; valu
 
 -- the value of the handle in an open of the actor
 abbrev pub value_in_open : (actor handle : ℕ) → Message → Option ℤ
-value_in_open a h (Opens exports actor class values) = if actor == a then value_at values h else None
+value_in_open a h (Opens exports actor class values) = if actor == a then value_among values h else None
 value_in_open a h message = None
 
 -- the value of the handle in an update of the actor
 abbrev pub value_in_update : (actor handle : ℕ) → Item → Option ℤ
-value_in_update a h (Loose (Updates actor class values) bunch) = if actor == a then value_at values h else None
+value_in_update a h (Loose (Updates actor class values) bunch) = if actor == a then value_among values h else None
 value_in_update a h item = None
 
 -- the deed made a part of the actor's open
@@ -55,7 +55,7 @@ update_carry a h deed = None
 abbrev pub carry_of : Past → (actor handle : ℕ) → Option Carry
 carry_of past a h =
     or_else (newest_of (update_carry a h) (items_since (is_open_of a) past))
-    (carry_in None (value_at (open_values past a) h))
+    (carry_in None (value_among (open_values past a) h))
 
 -- an open counts as arrived when all its parts have
 abbrev pub carry_fate : Past → (actor : ℕ) → Carry → Fate

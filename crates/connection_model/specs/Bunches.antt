@@ -3,10 +3,11 @@ use Rattle.std.specs.Prelude.{ℕ, ◌+◌, ◌-◌, ◌%◌, ◌==◌, List, []
 use Rattle.std.specs.List.{list_any, list_all, range_with_len, fold}
 use Rattle.protocol_model.specs.Packet.{Bunch}
 use Rattle.protocol_model.specs.Payload.{Message, Opens, Closes, message_bits, part_at, piece_at, parts_of}
-use Rattle.replication_model.specs.Feed.{Past, Deed, Made, Sent, Item, Carries}
+use Rattle.connection_model.specs.Feed.{Past, Deed, Made, Sent, Item, Carries}
 use Rattle.protocol_model.specs.declared.Fate.{Fate}
-use Rattle.replication_model.specs.Fates.{fate_of, is_arrived, is_lost}
+use Rattle.connection_model.specs.Fates.{fate_of, is_arrived, is_lost}
 use Rattle.std.specs.Bool.{then_some}
+use Rattle.protocol_model.specs.Limits.{sequence_modulus, span_limit, span_sum_limit}
 use Rattle.protocol_model.specs.Search.{newest_of, greatest_of, least_from, ascending_numbers}
 
 -- ---- the list made
@@ -88,7 +89,7 @@ span_sum past = sum_by (span past) (channels_of past)
 
 -- how many bunches can be made on the index
 abbrev pub room : Past → ℕ → ℕ
-room past ch = min (256 - span past ch) (512 - span_sum past)
+room past ch = min (span_limit - span past ch) (span_sum_limit - span_sum past)
 
 -- ---- making bunches
 
@@ -124,7 +125,7 @@ made_bunch ch n message i = record {
   channel = ch;
   exports = has_exports message && i == 0;
   part = part_at (parts_of message) i;
-  seq = n % 1024;
+  seq = n % sequence_modulus;
   kind = if ch == 0 then 1 else 2;
   payload = piece_at (message_bits message) i;
 }

@@ -7,9 +7,10 @@ use Rattle.protocol_model.specs.declared.Part.{Part}
 use Rattle.protocol_model.specs.declared.Part.TheVariants.{Whole, First, Middle, Last, Lone}
 use Rattle.protocol_model.specs.declared.PartWhy.{PartWhy}
 use Rattle.protocol_model.specs.declared.PartWhy.TheVariants.{Oversize, Flags, Restart, Inside, NoFirst, Opens, FewBits, TooMany}
-use Rattle.replication_model.specs.Feed.{Past, Entry, Heard}
-use Rattle.replication_model.specs.Fates.{entries_of}
+use Rattle.connection_model.specs.Feed.{Past, Entry, Heard}
+use Rattle.connection_model.specs.Fates.{entries_of}
 use Rattle.std.specs.Bool.{then_some}
+use Rattle.protocol_model.specs.Limits.{part_bits, part_limit}
 use Rattle.protocol_model.specs.Search.{is_among, least_from, items_since, ascending_numbers, newest_of}
 
 -- ---- numbers
@@ -111,16 +112,16 @@ kept_of applied = items_since ends_payload (reverse applied)
 -- the first rule of parts that the bunch breaks, where these are kept
 abbrev pub part_fault : (kept : List Bunch) → Bunch → Part → Option PartWhy
 part_fault kept b part =
-    if nat_lt 7000 (length b.payload) then Some Oversize
+    if nat_lt part_bits (length b.payload) then Some Oversize
     else if is_lone part then Some PartWhy.Lone
     else if is_some_part part && b.closes then Some Flags
     else if is_first part && is_kept then Some Restart
     else if is_whole part && b.reliable && is_kept then Some Inside
     else if is_later part && not is_kept then Some NoFirst
     else if is_later part && b.opens then Some Opens
-    else if (is_some_part part && not (is_last part) && not (length b.payload == 7000))
+    else if (is_some_part part && not (is_last part) && not (length b.payload == part_bits))
     || (is_last part && length b.payload == 0) then Some FewBits
-    else if is_later part && nat_le 10 (length kept) then Some TooMany
+    else if is_later part && nat_le part_limit (length kept) then Some TooMany
     else None
   where
     is_kept : Bool

@@ -2,6 +2,7 @@
 use Rattle.std.specs.Prelude.{ℕ, zero, suc, ◌+◌, ◌-◌, ◌%◌, ◌==◌, List, [], ◌∷◌, length, Bool, true, false, not, ◌&&◌, ◌||◌, nat_lt, nat_le, Option, Some, None, is_none, option_map, option_and_then, unwrap_or, if◌then◌else◌, ℤ, pos}
 use Rattle.std.specs.List.{fold}
 use Rattle.std.specs.Bool.{beq}
+use Rattle.protocol_model.specs.Limits.{copy_limit, name_bytes}
 use Rattle.protocol_model.specs.declared.Kind.{Kind}
 use Rattle.protocol_model.specs.declared.Kind.TheVariants.{U8, I32, U32, I64, Packed, Guid, Enum, Bytes}
 use Rattle.protocol_model.specs.Value.{Arg, Scalar, Octets, goes_up, goes_down, Call, Segment, Class, Table, Pair, class_guid, handle_count, call_at}
@@ -11,11 +12,11 @@ use Rattle.protocol_model.specs.Packet.{Bunch}
 use Rattle.protocol_model.specs.Payload.{Message, Opens, Closes, Updates, Calls, Gone, kind_at}
 use Rattle.protocol_model.specs.declared.Cause.{Cause}
 use Rattle.protocol_model.specs.declared.Cause.TheVariants.{BadChannel, UnknownGuid, Clash, ActorsFull}
-use Rattle.replication_model.specs.Feed.{End, Past}
+use Rattle.connection_model.specs.Feed.{End, Past}
 use Rattle.protocol_model.specs.Side.{AtServer, AtClient}
-use Rattle.replication_model.specs.State.{opened_class}
-use Rattle.replication_model.specs.Copies.{copy_class, copy_channel, copy_on, copied_actors, has_copy}
-use Rattle.replication_model.specs.Names.{is_name, learn_fault, names_with, names_of, class_named}
+use Rattle.connection_model.specs.State.{opened_class}
+use Rattle.connection_model.specs.Copies.{copy_class, copy_channel, copy_on, copied_actors, has_copy}
+use Rattle.connection_model.specs.Names.{is_segment_name, learn_fault, names_with, names_of, class_named}
 
 -- a broken rule has a cause of its own, or is a bad payload at its bit
 abbrev pub PayloadReading : Type 0 → Type 0
@@ -131,8 +132,8 @@ abbrev pub segment_at : PayloadReading Segment
 segment_at = do
   guid ← field number_at (λ g. g % 2 == 1 && nat_le 3 g)
   outer ← number_at
-  n ← field (int_at 64) (λ n. nat_le 1 n && nat_le n 31)
-  name ← field (octets_at n) is_name
+  n ← field (int_at 64) (λ n. nat_le 1 n && nat_le n name_bytes)
+  name ← field (octets_at n) is_segment_name
   give (record { guid = guid; outer = outer; name = name })
 
 -- each export goes to the names once it has been read whole
@@ -176,7 +177,7 @@ open_at table past first = do
   exports ← exports_at first.exports (names_of past)
   actor ← actor_at
   _ ← unless (not (is_elsewhere first.channel (copy_channel past actor))) (Clash actor)
-  _ ← unless (has_copy past actor || nat_lt (length (copied_actors past)) 8192) ActorsFull
+  _ ← unless (has_copy past actor || nat_lt (length (copied_actors past)) copy_limit) ActorsFull
   guid ← number_at
   class ← class_or (UnknownGuid guid) (class_named table (fold names_with (names_of past) exports) guid)
   _ ← unless (not (is_other_class class (copy_class past actor))) (Clash actor)

@@ -3,8 +3,8 @@ use Rattle.std.specs.Prelude.{ℕ, ◌==◌, List, length, Bool, true, false, no
 use Rattle.std.specs.List.{list_any}
 use Rattle.protocol_model.specs.Value.{Class}
 use Rattle.protocol_model.specs.Payload.{Message, Opens, Closes, Updates, Calls, Gone, actor_of, parts_of}
-use Rattle.replication_model.specs.Feed.{Past, Deed, Made}
-use Rattle.replication_model.specs.Bunches.{have_arrived, channels_of, span}
+use Rattle.connection_model.specs.Feed.{Past, Deed, Made}
+use Rattle.connection_model.specs.Bunches.{have_arrived, channels_of, span}
 use Rattle.std.specs.Bool.{then_some}
 use Rattle.protocol_model.specs.Search.{newest_of, ascending_numbers, least_from}
 

@@ -1,0 +1,17 @@
+pub mod Feed
+pub mod Past
+pub mod Fates
+pub mod Bunches
+pub mod Windows
+pub mod State
+pub mod Carry
+pub mod Settled
+pub mod Exports
+pub mod Names
+pub mod Copies
+pub mod PayloadReading
+pub mod CallAnswers
+pub mod Items
+pub mod Pack
+pub mod Verdict
+pub mod Handed
