@@ -1,5 +1,5 @@
 -- Reading a packet: the rules of its fields from left to right, and the first that is broken.
-use Rattle.std.specs.Prelude.{◌≡◌, ℕ, zero, suc, ◌+◌, ◌-◌, ◌*◌, ◌^◌, ◌==◌, List, [], ◌∷◌, length, reverse, Bool, true, false, not, ◌&&◌, ◌||◌, nat_lt, Result, Ok, Err, if◌then◌else◌, slice_index_or}
+use Rattle.std.specs.Prelude.{◌≡◌, ℕ, zero, suc, ◌+◌, ◌-◌, ◌*◌, ◌==◌, List, [], ◌∷◌, length, reverse, Bool, true, false, not, ◌&&◌, ◌||◌, nat_lt, Result, Ok, Err, if◌then◌else◌, slice_index_or}
 use Rattle.protocol_model.specs.Limits.{bunch_bits_limit, channels_one, channels_two, packet_bytes, packet_modulus, sequence_modulus}
 use Rattle.protocol_model.specs.Bits.{bits_of}
 use Rattle.protocol_model.specs.Reading.{Fault, Broken, Reading, ◌>>=◌, give, must, left, bit_at, bits_at, fixed_at, int_at, packed_at, place_of}

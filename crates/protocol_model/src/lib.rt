@@ -7,6 +7,7 @@
 #![tactic(auto)]
 
 pub mod laws;
+pub mod limits;
 
 /// The packet's version, which both ends of a connection share.
 ///
