@@ -14,16 +14,20 @@ pub fn empty_world()
 
 /// The n-th spawn has guid 2n.
 pub fn spawn_has_next_guid()
-    ensures { (edits : Edits) (class : ℕ) (x y : ℤ) → spawn_of (Edit.Spawn class x y ∷ edits) (2 * (spawn_count edits + 1)) ≡ Some (record { class = class; x = x; y = y }) }
+    ensures { (edits : Edits) (class : ℕ) (x y : ℤ)
+        → spawn_of (Edit.Spawn class x y ∷ edits) (2 * (spawn_count edits + 1))
+        ≡ Some (record { class = class; x = x; y = y }) }
 {}
 
 /// A cell has the value that was set last.
 pub fn last_set_counts()
-    ensures { (table : Table) (edits : Edits) (actor handle : ℕ) (value : ℤ) → value_of table (Edit.Set actor handle value ∷ edits) actor handle ≡ value }
+    ensures { (table : Table) (edits : Edits) (actor handle : ℕ) (value : ℤ)
+        → value_of table (Edit.Set actor handle value ∷ edits) actor handle ≡ value }
 {}
 
-/// What is its owner's alone is shown to nobody else, neither in an open nor in an update.
-pub fn owners_values_are_private()
+/// By the table of conditions a property that is its owner's alone goes to nobody else, neither with
+/// an open nor with an update.
+pub fn owner_only_goes_to_the_owner()
     ensures open { (on : Bool) → visible Cond.OwnerOnly false on ≡ false }
     ensures update { (on : Bool) → updatable Cond.OwnerOnly false on ≡ false }
 {}
