@@ -23,7 +23,7 @@ use Rattle.ack_book.specs.Book.{Book}
 use Rattle.ack_book.specs.History.{bit_in}
 use Rattle.ack_book.specs.Keeps.{Keeps}
 use Rattle.ack_book.specs.declared.TheConstants.{KEPT, UNRESOLVED_MAX}
-use Rattle.ack_book.proofs.Greatest.{greatest_of-append, among_above}
+use Rattle.protocol_laws.proofs.Greatest.{greatest_of-append, among_above}
 use Rattle.ack_book.proofs.Words.{bit_in_word}
 use Rattle.ack_book.proofs.Histories.{spelled_by, bit_of_words, bit_taken_first}
 use Rattle.ack_book.proofs.Names.{named_none, named_first, named_low, named_sent, named_unsent, among_named, among_low, named_greatest}

@@ -16,7 +16,7 @@ use Rattle.ack_book.specs.Book.{Book}
 use Rattle.ack_book.specs.History.{bit_in}
 use Rattle.ack_book.specs.Keeps.{Keeps}
 use Rattle.ack_book.specs.declared.TheConstants.{KEPT, UNRESOLVED_MAX}
-use Rattle.ack_book.proofs.Greatest.{greatest_of-cons, among_above}
+use Rattle.protocol_laws.proofs.Greatest.{greatest_of-cons, among_above}
 use Rattle.ack_book.proofs.Steps.{if_other, told_at, bit_taken, owed_more, at_place, moves_one, none_above}
 
 -- in version One what is owed depends on what was taken since the last tick alone

@@ -10,7 +10,7 @@ use Rattle.std.proofs.lemmas.Bool.Decides.{nat_tests}
 use Rattle.protocol_model.specs.Bits.{near}
 use Rattle.protocol_model.specs.Search.{is_among, greatest_of}
 use Rattle.connection_model.specs.Fates.{named_numbers, number_above}
-use Rattle.ack_book.proofs.Greatest.{greatest_of-cons}
+use Rattle.protocol_laws.proofs.Greatest.{greatest_of-cons}
 use Rattle.ack_book.proofs.Steps.{none_above}
 
 -- no bit, no number

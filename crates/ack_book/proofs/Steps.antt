@@ -9,7 +9,7 @@ use Rattle.std.specs.List.{cons_option}
 use Rattle.circular_buffer.specs.Buffer.{Buffer, buffer, keep_last}
 use Rattle.connection_model.specs.Fates.{number_above}
 use Rattle.protocol_model.specs.Search.{is_among, greatest_of}
-use Rattle.ack_book.proofs.Greatest.{among_above}
+use Rattle.protocol_laws.proofs.Greatest.{among_above}
 
 -- what a place of the ring has after it is marked up to n
 pub at_place : (high n k : ℕ) (r m : Bool) → k ≤ n → (k ≡ n → r ≡ true) → (high < k → k < n → r ≡ false) → (k ≤ high → r ≡ m)

@@ -6,8 +6,8 @@ use Rattle.std.proofs.lemmas.Nat.{pow-add, from_le_bytes-to_le_bytes_8}
 use Rattle.std.proofs.Math.ListN.{drop_of_length-le}
 use Rattle.std.proofs.Math.Seq.{take-length}
 use Rattle.std.specs.Int.{w64, to_le_bytes, from_le_bytes}
-use Rattle.bit_io.specs.Packed.{number_of_bytes}
-use Rattle.bit_io.proofs.Digits.{place_up}
+use Rattle.protocol_laws.specs.Packed.{number_of_bytes}
+use Rattle.protocol_laws.proofs.Digits.{place_up}
 
 -- the first byte of a part, and those behind it
 pub next_part : (bs : List ℕ) (i j k : ℕ) → j ≡ i + 1 → i < length bs → number_of_bytes (take (suc k) (drop i bs)) ≡ get_or bs i 0 + 256 * number_of_bytes (take k (drop j bs))

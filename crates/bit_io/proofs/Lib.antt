@@ -1,14 +1,6 @@
-pub mod Digits
-pub mod Steps
-pub mod EightBytes
-pub mod Reading
-pub mod Widths
+mod Steps
+mod EightBytes
 pub mod Places
-pub mod IntReading
-pub mod PutSteps
-pub mod PackedReading
-pub mod PackedWriting
-pub mod PackedLaws
-pub mod IntLaws
-pub mod FixedLaws
-pub mod BytesLaws
+mod PutSteps
+mod PackedWords
+mod WidthSteps

@@ -1,18 +1,16 @@
 -- The bits between two places of bytes.
-use Rattle.std.proofs.Common.{◌≡◌, ℕ, ◌<◌, ◌≤◌, ◌+◌, ◌-◌, ◌*◌, ◌/◌, ◌%◌, ◌^◌, ◌==◌, List, [], ◌∷◌, Bool, Some, None, refl, sym, ap, ◌∙◌, arith, length, take, drop, slice_get, length-append}
+use Rattle.std.proofs.Common.{◌≡◌, ℕ, ◌<◌, ◌≤◌, ◌+◌, ◌-◌, ◌*◌, ◌/◌, ◌%◌, ◌^◌, ◌==◌, List, Bool, Some, None, Ok, refl, sym, ap, ◌∙◌, arith, length, take, drop, slice_get, length-append}
 use Rattle.std.proofs.lemmas.List.{take-take, drop-drop, drop-take, length-take-le, length-drop}
 use Rattle.std.proofs.lemmas.Option.{slice_get_past}
 use Rattle.std.proofs.lemmas.Nat.{shr-shr}
-use Rattle.protocol_model.specs.Bits.{digits, bits_of}
-use Rattle.protocol_model.specs.Numbers.{leading_bits, leading_fixed}
-use Rattle.bit_io.specs.Packed.{number_of_bytes}
+use Rattle.protocol_model.specs.Bits.{digits, bits_of, packed_bits}
+use Rattle.protocol_model.specs.Numbers.{leading_bits, leading_fixed, leading_packed}
+use Rattle.protocol_laws.specs.Packed.{number_of_bytes}
 use Rattle.bit_io.specs.Between.{bits_between}
-use Rattle.bit_io.proofs.Digits.{IsBytes, view-left, length-digits, slice_get-digits}
-use Rattle.bit_io.proofs.Reading.{leading_fixed-digits, leading_fixed-short, leading_bits-short, long_enough}
-
-pub length-bits_of : (bytes : List ℕ) → length (bits_of bytes) ≡ 8 * length bytes
-length-bits_of [] = refl
-length-bits_of (b ∷ bytes) = omega (arith, length-append (digits 8 b) (bits_of bytes), length-digits 8 b, length-bits_of bytes)
+use Rattle.protocol_laws.proofs.Digits.{IsBytes, view-left, slice_get-digits}
+use Rattle.protocol_laws.proofs.Lengths.{length-bits_of}
+use Rattle.protocol_laws.proofs.PackedLaws.{packed-spelled}
+use Rattle.protocol_laws.proofs.Reading.{leading_fixed-digits, leading_fixed-short, leading_bits-short, long_enough}
 
 pub length-between : (bytes : List ℕ) (from to : ℕ) → from ≤ to → to ≤ 8 * length bytes → length (bits_between bytes from to) ≡ to - from
 unfolding bits_between
@@ -74,3 +72,10 @@ get-between bytes from to i h o t =
 
 pub get-past : (bytes : List ℕ) (from to i : ℕ) → from ≤ to → to ≤ from + i → to ≤ 8 * length bytes → slice_get (bits_between bytes from to) i ≡ None
 get-past bytes from to i o p t = slice_get_past (bits_between bytes from to) i (omega (arith, length-between bytes from to o t))
+
+-- the reader's place behind a packed number
+pub packed_end : (bytes : List ℕ) (at to end v : ℕ) → at ≤ end → end ≤ to → to ≤ 8 * length bytes → leading_packed (bits_between bytes at to) ≡ Ok (v, bits_between bytes end to) → end ≡ at + length (packed_bits v)
+packed_end bytes at to end v a e t h =
+    let s = packed-spelled v (bits_between bytes at to) (bits_between bytes end to) h in
+    let whole = ap length s.1 in
+    omega (arith, whole, length-append (packed_bits v) (bits_between bytes end to), length-between bytes at to (omega arith) t, length-between bytes end to e t)

@@ -3,8 +3,8 @@ use Rattle.std.proofs.Common.{◌≡◌, ℕ, suc, ◌<◌, ◌≤◌, ◌+◌, 
 use Rattle.std.proofs.lemmas.Nat.{pow_pos, pow-add, shr_below, mul-add-lt, shr_split, field_of, mod-pow-add, shr-shr}
 use Rattle.std.proofs.Math.Nat.{pow-le-pow_right}
 use Rattle.std.proofs.Math.Pow.{mod-mod-pow}
-use Rattle.bit_io.specs.Packed.{number_of_bytes}
-use Rattle.bit_io.proofs.Digits.{number_of_bytes-set, byte_below_at, IsBytes}
+use Rattle.protocol_laws.specs.Packed.{number_of_bytes}
+use Rattle.protocol_laws.proofs.Digits.{number_of_bytes-set, byte_below_at, IsBytes}
 
 pub place_split : (place : ℕ) → 2 ^ place ≡ 2 ^ (place % 8) * 2 ^ (8 * (place / 8))
 place_split place =

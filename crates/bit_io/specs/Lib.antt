@@ -1,6 +1,4 @@
-pub mod Packed
 pub mod Written
 pub mod Between
 pub mod Lent
 pub mod HeadOf
-pub mod IntWidth

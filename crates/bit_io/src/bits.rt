@@ -1,7 +1,7 @@
 // Bits that are kept.
 ghost use Rattle.std.specs.Prelude.{◌≡◌, ◌<◌, ◌≤◌, ◌*◌, ◌^◌, length};
 ghost use Rattle.protocol_model.specs.Bits.{digits};
-ghost use Rattle.bit_io.specs.Packed.{number_of_bytes};
+ghost use Rattle.protocol_laws.specs.Packed.{number_of_bytes};
 ghost use Rattle.bit_io.specs.Lent.{slice_bits};
 
 use crate::lent::BitSlice;
@@ -17,7 +17,7 @@ pub struct Bits {
 impl Model for Bits {
     ghost use Rattle.std.specs.Prelude.{◌*◌, ◌≤◌, ◌<◌, ◌^◌, List, Bool, length};
     ghost use Rattle.protocol_model.specs.Bits.{digits};
-    ghost use Rattle.bit_io.specs.Packed.{number_of_bytes};
+    ghost use Rattle.protocol_laws.specs.Packed.{number_of_bytes};
 
     ghost Value = { List Bool };
 

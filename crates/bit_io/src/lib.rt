@@ -14,7 +14,6 @@
 mod bits;
 mod blob;
 mod head;
-pub mod laws;
 mod lent;
 mod numbers;
 mod reader;

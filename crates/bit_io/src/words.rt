@@ -1,7 +1,7 @@
 // Parts of packed bytes, written and read a byte or a word at a time.
 ghost use Rattle.std.specs.Prelude.{◌≡◌, ◌<◌, ◌≤◌, ◌+◌, ◌*◌, ◌/◌, ◌%◌, ◌^◌, length, take, drop};
 ghost use Rattle.protocol_model.specs.Bits.{digits};
-ghost use Rattle.bit_io.specs.Packed.{number_of_bytes};
+ghost use Rattle.protocol_laws.specs.Packed.{number_of_bytes};
 ghost use Rattle.bit_io.specs.Between.{bits_between};
 
 /// The number of the lowest bits.

@@ -1,7 +1,7 @@
 // Writing bits into room that was taken at once.
 ghost use Rattle.std.specs.Prelude.{◌≡◌, ◌∷◌, [], ◌<◌, ◌≤◌, ◌^◌, length, IfOk};
 ghost use Rattle.protocol_model.specs.Bits.{digits, bytes_of, int_bits, packed_bits, fixed_bits};
-ghost use Rattle.bit_io.specs.Packed.{number_of_bytes};
+ghost use Rattle.protocol_laws.specs.Packed.{number_of_bytes};
 ghost use Rattle.bit_io.specs.Written.{Appends, IsClear};
 ghost use Rattle.bit_io.specs.Lent.{slice_bits};
 
@@ -26,7 +26,7 @@ pub struct BitWriter {
 impl Model for BitWriter {
     ghost use Rattle.std.specs.Prelude.{◌*◌, ◌-◌, length};
     ghost use Rattle.protocol_model.specs.Bits.{digits};
-    ghost use Rattle.bit_io.specs.Packed.{number_of_bytes};
+    ghost use Rattle.protocol_laws.specs.Packed.{number_of_bytes};
     ghost use Rattle.bit_io.specs.Written.{Written, IsClear};
 
     ghost Value = { Written };

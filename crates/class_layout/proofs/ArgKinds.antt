@@ -1,7 +1,7 @@
 -- Kinds of arguments that are read one after another, and how many bits they take.
 use Rattle.std.proofs.Common.{◌≡◌, ℕ, ◌%◌, ◌^◌, ◌<◌, ◌≤◌, List, [], ◌∷◌, ◌++◌, refl, sym, ap, Result, Ok, Err, true, arith, rules}
 use Rattle.std.proofs.lemmas.List.{append_assoc}
-use Rattle.bit_io.proofs.Widths.{int_width-is}
+use Rattle.protocol_laws.proofs.Widths.{int_width-is}
 use Rattle.protocol_model.specs.Bits.{int_width}
 use Rattle.protocol_model.specs.declared.Kind.{Kind}
 use Rattle.table_model.specs.Rules.{arg_kinds}

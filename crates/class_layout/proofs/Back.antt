@@ -9,9 +9,9 @@ use Rattle.protocol_model.specs.Bits.{packed_bits, int_bits, fixed_bits, signed_
 use Rattle.protocol_model.specs.Numbers.{leading_fixed, leading_int, leading_packed}
 use Rattle.protocol_model.specs.Payload.{natural, value_bits}
 use Rattle.protocol_model.specs.Value as Model
-use Rattle.bit_io.proofs.Reading.{leading_fixed-append}
-use Rattle.bit_io.proofs.PackedLaws.{packed-read}
-use Rattle.bit_io.proofs.IntLaws.{int-read}
+use Rattle.protocol_laws.proofs.Reading.{leading_fixed-append}
+use Rattle.protocol_laws.proofs.PackedLaws.{packed-read}
+use Rattle.protocol_laws.proofs.IntLaws.{int-read}
 use Rattle.class_layout.specs.Reading.{is_kind, or_short, as_value, leading_value}
 use Rattle.class_layout.proofs.Signed.{signed_word, signed_long, below_word, below_long}
 

@@ -10,10 +10,10 @@ use Rattle.protocol_model.specs.Bits.{digits, packed_in, packed_bits, int_bits, 
 use Rattle.protocol_model.specs.Numbers.{leading_fixed, leading_int, leading_packed}
 use Rattle.protocol_model.specs.Payload.{natural, value_bits}
 use Rattle.protocol_model.specs.Value as Model
-use Rattle.bit_io.proofs.Reading.{leading_fixed-spelled}
-use Rattle.bit_io.proofs.PackedLaws.{packed-spelled}
-use Rattle.bit_io.proofs.IntLaws.{int-spelled}
-use Rattle.bit_io.proofs.Widths.{int_width_bound}
+use Rattle.protocol_laws.proofs.Reading.{leading_fixed-spelled}
+use Rattle.protocol_laws.proofs.PackedLaws.{packed-spelled}
+use Rattle.protocol_laws.proofs.IntLaws.{int-spelled}
+use Rattle.protocol_laws.proofs.Widths.{int_width_bound}
 use Rattle.class_layout.specs.Reading.{is_kind, has_values, or_short, as_value, leading_value}
 use Rattle.class_layout.proofs.Signed.{unsigned_word, unsigned_long, fits_word, fits_long}
 use Rattle.class_layout.proofs.Lengths.{length_fixed, length_signed}

@@ -13,9 +13,9 @@ use Rattle.protocol_model.specs.PacketReading.{Refusal, packet_at, packet_of, co
 use Rattle.protocol_model.specs.declared.Version.{Version}
 use Rattle.protocol_model.specs.declared.Why.{Why}
 use Rattle.protocol_model.specs.declared.Why.TheVariants.{Empty, TooLong, NoEnd}
-use Rattle.bit_io.proofs.BytesLaws.{bits_of-bytes_of, bytes_of-bits_of}
-use Rattle.bit_io.proofs.Places.{length-bits_of}
-use Rattle.bit_io.proofs.Reading.{number_of_below}
+use Rattle.protocol_laws.proofs.BytesLaws.{bits_of-bytes_of, bytes_of-bits_of}
+use Rattle.protocol_laws.proofs.Lengths.{length-bits_of}
+use Rattle.protocol_laws.proofs.Reading.{number_of_below}
 use Rattle.packet_codec.proofs.Content.{content-is, ended}
 use Rattle.packet_codec.proofs.PacketSpelled.{content_spelled}
 

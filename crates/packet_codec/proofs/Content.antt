@@ -13,8 +13,8 @@ use Rattle.std.proofs.lemmas.Grind.{reverse_onto, replicate_next, flat_map-appen
 use Rattle.protocol_model.specs.Bits.{bits_of, digits}
 use Rattle.protocol_model.specs.PacketReading.{after_first_one, content_of, packet_of, content_read}
 use Rattle.protocol_model.specs.declared.Version.{Version}
-use Rattle.bit_io.proofs.Digits.{length-digits, digits-split, digits-zero}
-use Rattle.bit_io.proofs.Places.{length-bits_of}
+use Rattle.protocol_laws.proofs.Digits.{length-digits, digits-split, digits-zero}
+use Rattle.protocol_laws.proofs.Lengths.{length-bits_of}
 
 -- 0 bits are the same from either end
 zeros_reverse : (n : ℕ) → reverse (replicate n false) ≡ replicate n false

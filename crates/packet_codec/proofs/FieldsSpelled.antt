@@ -12,9 +12,9 @@ use Rattle.protocol_model.specs.declared.Version.{Version}
 use Rattle.protocol_model.specs.declared.Version.TheVariants.{One, Two}
 use Rattle.protocol_model.specs.declared.Why.{Why}
 use Rattle.protocol_model.specs.declared.Why.TheVariants.{Padded, Wide, BadKind}
-use Rattle.bit_io.proofs.IntLaws.{int-spelled}
-use Rattle.bit_io.proofs.PackedLaws.{packed-spelled}
-use Rattle.bit_io.proofs.Reading.{leading_fixed-spelled}
+use Rattle.protocol_laws.proofs.IntLaws.{int-spelled}
+use Rattle.protocol_laws.proofs.PackedLaws.{packed-spelled}
+use Rattle.protocol_laws.proofs.Reading.{leading_fixed-spelled}
 use Rattle.packet_codec.specs.Fields.{kind_at}
 
 -- what a reading answers where it goes well

@@ -9,9 +9,9 @@ use Rattle.protocol_model.specs.declared.Version.{Version}
 use Rattle.protocol_model.specs.declared.Version.TheVariants.{One, Two}
 use Rattle.protocol_model.specs.declared.Part.{Part}
 use Rattle.protocol_model.specs.declared.Part.TheVariants.{Whole, First, Middle, Last, Lone}
-use Rattle.bit_io.specs.IntWidth.{IsIntWidth}
-use Rattle.bit_io.proofs.Widths.{int_width-is}
-use Rattle.bit_io.proofs.Digits.{length-digits}
+use Rattle.protocol_laws.specs.IntWidth.{IsIntWidth}
+use Rattle.protocol_laws.proofs.Widths.{int_width-is}
+use Rattle.protocol_laws.proofs.Digits.{length-digits}
 use Rattle.packet_codec.specs.Parts.{control_bits, standing_bits, numbered_bits, words_bits}
 use Rattle.packet_codec.proofs.ReadBack.{bunch_bits-parts}
 

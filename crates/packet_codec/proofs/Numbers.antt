@@ -4,9 +4,9 @@ use Rattle.protocol_model.specs.Bits.{int_bits, packed_bits, fixed_bits}
 use Rattle.protocol_model.specs.Numbers.{leading_int, leading_fixed}
 use Rattle.protocol_model.specs.Reading.{Reading, ◌>>=◌, or_short, int_at, packed_at, fixed_at}
 use Rattle.protocol_model.specs.declared.Why.{Why}
-use Rattle.bit_io.proofs.IntLaws.{int-read}
-use Rattle.bit_io.proofs.PackedLaws.{packed-read}
-use Rattle.bit_io.proofs.Reading.{leading_fixed-append}
+use Rattle.protocol_laws.proofs.IntLaws.{int-read}
+use Rattle.protocol_laws.proofs.PackedLaws.{packed-read}
+use Rattle.protocol_laws.proofs.Reading.{leading_fixed-append}
 
 -- what begins the bits is read
 pub or_short_some : {A : Type 0} (leading : List Bool → Option (A × List Bool)) (bits : List Bool) (got : A × List Bool) → leading bits ≡ Some got → or_short {Why = Why} leading bits ≡ Ok got

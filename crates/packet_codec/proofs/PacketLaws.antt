@@ -5,7 +5,7 @@ use Rattle.protocol_model.specs.Bits.{bits_of}
 use Rattle.protocol_model.specs.Packet.{Packet, Spells, start_bits, rec_bits, spelling_of}
 use Rattle.protocol_model.specs.PacketReading.{Refusal, content_of, packet_of, content_read}
 use Rattle.protocol_model.specs.declared.Version.{Version}
-use Rattle.bit_io.proofs.BytesLaws.{bits_of-bytes_of}
+use Rattle.protocol_laws.proofs.BytesLaws.{bits_of-bytes_of}
 use Rattle.packet_codec.proofs.PacketBack.{packet_read}
 use Rattle.packet_codec.proofs.ReadBack.{is_below}
 use Rattle.packet_codec.proofs.Content.{content-is, packet_of-content, last_is_some}

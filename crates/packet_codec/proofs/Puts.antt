@@ -5,8 +5,8 @@ use Rattle.std.proofs.lemmas.List.{take_more}
 use Rattle.std.proofs.lemmas.Grind.{flat_map-append}
 use Rattle.protocol_model.specs.Bits.{bytes_of}
 use Rattle.bit_io.specs.Written.{Written, Appends}
-use Rattle.bit_io.proofs.BytesLaws.{bits_of-bytes_of}
-use Rattle.bit_io.proofs.Places.{length-bits_of}
+use Rattle.protocol_laws.proofs.BytesLaws.{bits_of-bytes_of}
+use Rattle.protocol_laws.proofs.Lengths.{length-bits_of}
 use Rattle.packet_codec.proofs.ReadBack.{left_of, right_of}
 
 -- nothing is put

@@ -10,7 +10,7 @@ use Rattle.protocol_model.specs.declared.Version.{Version}
 use Rattle.protocol_model.specs.declared.Why.{Why}
 use Rattle.bit_io.specs.declared.lent.BitReader.{BitReader}
 use Rattle.bit_io.specs.Lent.{bits_left}
-use Rattle.bit_io.proofs.Places.{length-bits_of}
+use Rattle.protocol_laws.proofs.Lengths.{length-bits_of}
 use Rattle.packet_codec.specs.Reads.{FollowsAs, fault_of}
 use Rattle.packet_codec.specs.Stops.{FollowsUnlessMemory}
 use Rattle.packet_codec.specs.Refused.{EndsAt, Explains}

@@ -5,7 +5,7 @@ use Rattle.std.specs.Prelude.{FitsSigned}
 use Rattle.std.specs.Int.{w32, cast_signed, cast_unsigned}
 use Rattle.protocol_model.specs.Bits.{packed_bits, int_bits, fixed_bits, signed_bits}
 use Rattle.protocol_model.specs.Numbers.{leading_fixed}
-use Rattle.bit_io.proofs.Reading.{leading_fixed-append, leading_fixed-spelled}
+use Rattle.protocol_laws.proofs.Reading.{leading_fixed-append, leading_fixed-spelled}
 use Rattle.pawn_open.specs.declared.Pawn.{Pawn}
 use Rattle.pawn_open.specs.Open.{IsPawn}
 use Rattle.pawn_open.specs.Parts.{segment, head, pair, number, tail, values, game_name, pawn_name}

@@ -4,9 +4,9 @@ use Rattle.std.proofs.lemmas.Bool.Decides.{nat_tests}
 use Rattle.protocol_model.specs.declared.NumRefusal.{NumRefusal}
 use Rattle.protocol_model.specs.Bits.{packed_bits, int_bits, fixed_bits}
 use Rattle.protocol_model.specs.Numbers.{leading_packed, leading_int, leading_fixed}
-use Rattle.bit_io.proofs.Reading.{leading_fixed-append, leading_fixed-spelled}
-use Rattle.bit_io.proofs.PackedLaws.{packed-read, packed-spelled}
-use Rattle.bit_io.proofs.IntLaws.{int-read, int-spelled}
+use Rattle.protocol_laws.proofs.Reading.{leading_fixed-append, leading_fixed-spelled}
+use Rattle.protocol_laws.proofs.PackedLaws.{packed-read, packed-spelled}
+use Rattle.protocol_laws.proofs.IntLaws.{int-read, int-spelled}
 use Rattle.pawn_open.specs.Reading.{◌>>=◌, past, or_none, past_packed, past_int, past_fixed}
 
 -- what is there is one thing

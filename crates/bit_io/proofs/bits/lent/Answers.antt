@@ -1,6 +1,6 @@
 use Rattle.std.proofs.Common.{◌≡◌, ◌-◌, ◌/◌, ap, ◌∙◌, arith}
 use Rattle.protocol_model.specs.Bits.{digits}
-use Rattle.bit_io.specs.Packed.{number_of_bytes}
+use Rattle.protocol_laws.specs.Packed.{number_of_bytes}
 use Rattle.bit_io.proofs.Places.{between-is}
 use Rattle.bit_io.proofs.bits.lent.Goals as goal
 

@@ -1,5 +1,5 @@
 use Rattle.std.proofs.Common.{◌-◌, ◌/◌, sym, ◌∙◌, arith}
-use Rattle.bit_io.proofs.PackedReading.{groups-none, groups-short, groups-more, groups-more_err, groups-padded, groups-last, groups_top, more_below, last_below}
+use Rattle.protocol_laws.proofs.PackedReading.{groups-none, groups-short, groups-more, groups-more_err, groups-padded, groups-last, groups_top, more_below, last_below}
 use Rattle.bit_io.proofs.numbers.+packed_at.Goals as goal
 
 pub returns-then-groups-eq0-clause-exact : goal.returns-then-groups-eq0-clause-exact

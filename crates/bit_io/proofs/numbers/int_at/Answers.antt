@@ -2,11 +2,11 @@ use Rattle.std.proofs.Common.{◌≡◌, ◌<◌, ◌≤◌, ◌+◌, ◌-◌, �
 use Rattle.std.proofs.lemmas.Nat.{shr-shr}
 use Rattle.protocol_model.specs.Bits.{digits, int_width}
 use Rattle.protocol_model.specs.Numbers.{leading_int}
-use Rattle.bit_io.specs.Packed.{number_of_bytes}
+use Rattle.protocol_laws.specs.Packed.{number_of_bytes}
 use Rattle.bit_io.specs.Between.{bits_between}
-use Rattle.bit_io.proofs.Digits.{IsBytes, mod-mod-le}
+use Rattle.protocol_laws.proofs.Digits.{IsBytes, mod-mod-le}
 use Rattle.bit_io.proofs.Places.{between-is}
-use Rattle.bit_io.proofs.IntReading.{int-digits, int-digits_short, width_read, value_read}
+use Rattle.protocol_laws.proofs.IntReading.{int-digits, int-digits_short, width_read, value_read}
 use Rattle.bit_io.proofs.numbers.int_at.Goals as goal
 
 -- the width that was found is that of the bits ahead

@@ -1,6 +1,6 @@
 use Rattle.std.proofs.Common.{◌≡◌, ℕ, suc, ◌≤◌, ◌+◌, ◌-◌, ◌*◌, ◌/◌, ◌%◌, ◌^◌, ◌++◌, refl, subst, arith}
 use Rattle.protocol_model.specs.Bits.{digits, packed_in, packed_bits}
-use Rattle.bit_io.proofs.PackedWriting.{word_more, word_last, few_groups, rest_below, word_below, word_fits}
+use Rattle.bit_io.proofs.PackedWords.{word_more, word_last, few_groups, rest_below, word_below, word_fits}
 use Rattle.bit_io.proofs.numbers.packed_word.Goals as goal
 
 pub loop-rest-init : goal.loop-rest-init

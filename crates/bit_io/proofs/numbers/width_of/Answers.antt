@@ -1,5 +1,6 @@
 use Rattle.std.proofs.Common.{◌-◌, refl, sym, arith}
-use Rattle.bit_io.proofs.Widths.{int_width-is, width_none, width_fewer_is, width_most_is, is_zero}
+use Rattle.protocol_laws.proofs.Widths.{int_width-is, width_none}
+use Rattle.bit_io.proofs.WidthSteps.{width_fewer_is, width_most_is, is_zero}
 use Rattle.bit_io.proofs.numbers.width_of.Goals as goal
 
 pub returns-then-most-eq0-clause-width : goal.returns-then-most-eq0-clause-width

@@ -1,5 +1,5 @@
 use Rattle.std.proofs.Common.{◌+◌, ◌%◌, ap, ◌∙◌, arith}
-use Rattle.bit_io.specs.Packed.{number_of_bytes}
+use Rattle.protocol_laws.specs.Packed.{number_of_bytes}
 use Rattle.bit_io.proofs.Steps.{shifted_fits, shifted_is, word_room}
 use Rattle.bit_io.proofs.words.add_bits.Goals as goal
 

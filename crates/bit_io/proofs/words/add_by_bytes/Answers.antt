@@ -1,7 +1,7 @@
 use Rattle.std.proofs.Common.{◌≡◌, ◌+◌, ◌*◌, ◌%◌, ◌^◌, arith}
 use Rattle.std.proofs.lemmas.Nat.{mod_below, pow_pos}
 use Rattle.bit_io.proofs.Steps.{step_same, step_rest, step_clear}
-use Rattle.bit_io.specs.Packed.{number_of_bytes}
+use Rattle.protocol_laws.specs.Packed.{number_of_bytes}
 use Rattle.bit_io.proofs.words.add_by_bytes.Goals as goal
 
 pub loop-left-preserved : goal.loop-left-preserved

@@ -1,8 +1,8 @@
 use Rattle.std.proofs.Common.{◌≡◌, ◌<◌, ◌+◌, ◌-◌, ◌/◌, ◌%◌, ◌^◌, sym, ap, ◌∙◌, arith}
 use Rattle.std.proofs.lemmas.Nat.{mod_below, pow_pos, shr-shr}
-use Rattle.bit_io.specs.Packed.{number_of_bytes}
+use Rattle.protocol_laws.specs.Packed.{number_of_bytes}
 use Rattle.protocol_model.specs.Bits.{digits}
-use Rattle.bit_io.proofs.Digits.{digits-mod}
+use Rattle.protocol_laws.proofs.Digits.{digits-mod}
 use Rattle.bit_io.proofs.Places.{between-is}
 use Rattle.bit_io.proofs.Steps.{slice_same, slice_clear}
 use Rattle.bit_io.proofs.words.add_slice.Goals as goal

@@ -1,5 +1,5 @@
 use Rattle.std.proofs.Common.{◌-◌, ◌≡◌, ◌<◌, ◌≤◌, ◌+◌, ◌*◌, ◌/◌, ◌%◌, ◌^◌, length}
-use Rattle.bit_io.specs.Packed.{number_of_bytes}
+use Rattle.protocol_laws.specs.Packed.{number_of_bytes}
 use Rattle.bit_io.proofs.words.add_slice.Given as goal
 
 abbrev pub invariant-loop-done : goal.invariant-loop-done

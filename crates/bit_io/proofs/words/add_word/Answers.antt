@@ -1,5 +1,5 @@
 use Rattle.std.proofs.Common.{◌≡◌, refl, length, take, drop, ap, ◌∙◌, arith}
-use Rattle.bit_io.specs.Packed.{number_of_bytes}
+use Rattle.protocol_laws.specs.Packed.{number_of_bytes}
 use Rattle.bit_io.proofs.EightBytes.{sum_fits, put_back, word_added}
 use Rattle.bit_io.proofs.words.add_word.Goals as goal
 

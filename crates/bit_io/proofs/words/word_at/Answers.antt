@@ -1,5 +1,5 @@
 use Rattle.std.proofs.Common.{◌+◌, arith}
-use Rattle.bit_io.proofs.Digits.{IsBytes}
+use Rattle.protocol_laws.proofs.Digits.{IsBytes}
 use Rattle.bit_io.proofs.Steps.{byte_and_rest}
 use Rattle.bit_io.proofs.EightBytes.{next_part, no_part}
 use Rattle.bit_io.proofs.words.word_at.Goals as goal

@@ -1,5 +1,5 @@
 use Rattle.std.proofs.Common.{◌+◌, ◌/◌, take, sym, ◌∙◌}
-use Rattle.bit_io.proofs.Digits.{IsBytes, bytes_all}
+use Rattle.protocol_laws.proofs.Digits.{IsBytes, bytes_all}
 use Rattle.bit_io.proofs.PutSteps.{bytes_of-written}
 use Rattle.bit_io.proofs.writer.cut.Goals as goal
 

@@ -1,5 +1,5 @@
 use Rattle.std.proofs.Common.{sym}
-use Rattle.bit_io.proofs.Digits.{length-digits}
+use Rattle.protocol_laws.proofs.Digits.{length-digits}
 use Rattle.bit_io.proofs.bits.Bits.len.Goals as goal
 
 pub returns : goal.returns

@@ -1,5 +1,5 @@
 use Rattle.std.proofs.Common.{refl}
-use Rattle.bit_io.proofs.PackedLaws.{packed_end}
+use Rattle.bit_io.proofs.Places.{packed_end}
 use Rattle.bit_io.proofs.lent.BitReader.packed.Goals as goal
 
 pub returns-clause-moves : goal.returns-clause-moves

@@ -2,7 +2,7 @@ use Rattle.std.proofs.Common.{◌≡◌, ◌<◌, ◌-◌, ◌*◌, ◌^◌, ap,
 use Rattle.std.proofs.lemmas.Nat.{mod_below, pow_pos}
 use Rattle.protocol_model.specs.Bits.{digits, int_bits}
 use Rattle.bit_io.specs.Written.{Written}
-use Rattle.bit_io.proofs.Digits.{digits-mod}
+use Rattle.protocol_laws.proofs.Digits.{digits-mod}
 use Rattle.bit_io.proofs.PutSteps.{put_clear, put_appends}
 use Rattle.bit_io.proofs.writer.BitWriter.put_int.Goals as goal
 

@@ -1,6 +1,6 @@
 use Rattle.std.proofs.Common.{◌≡◌, ◌+◌, ◌-◌, ◌*◌, ◌^◌, ◌/◌, ◌%◌, ap, arith, length}
 use Rattle.std.proofs.lemmas.Nat.{mod_below, pow_pos}
-use Rattle.bit_io.specs.Packed.{number_of_bytes}
+use Rattle.protocol_laws.specs.Packed.{number_of_bytes}
 use Rattle.bit_io.specs.Written.{Written}
 use Rattle.bit_io.specs.Between.{bits_between}
 use Rattle.bit_io.specs.Lent.{slice_bits}

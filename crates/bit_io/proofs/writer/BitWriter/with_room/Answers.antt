@@ -1,5 +1,5 @@
 use Rattle.std.proofs.Common.{◌≡◌, arith, zero, suc, ℕ, refl, replicate}
-use Rattle.bit_io.specs.Packed.{number_of_bytes}
+use Rattle.protocol_laws.specs.Packed.{number_of_bytes}
 use Rattle.protocol_model.specs.Bits.{digits}
 use Rattle.bit_io.proofs.writer.BitWriter.with_room.Goals as goal
 

@@ -1,0 +1,14 @@
+pub mod Bounds
+pub mod Digits
+pub mod Reading
+pub mod Widths
+pub mod IntReading
+pub mod PackedReading
+pub mod PackedWriting
+pub mod PackedLaws
+pub mod IntLaws
+pub mod FixedLaws
+pub mod Lengths
+pub mod BytesLaws
+pub mod TwosComplement
+pub mod Greatest
