@@ -1,4 +1,5 @@
--- Reliable bunches that were made, and which of them have arrived.
+-- The reliable bunches that an end made on each index, and which of them have arrived.
+-- A bunch is due again as soon as the packet that last carried it is lost.
 use Rattle.std.specs.Prelude.{ℕ, ◌+◌, ◌-◌, ◌%◌, ◌==◌, List, [], ◌∷◌, min, Bool, true, false, ◌&&◌, not, Option, Some, None, filter_map, sum_by, if◌then◌else◌}
 use Rattle.std.specs.List.{list_any, list_all, range_with_len, fold}
 use Rattle.protocol_model.specs.Packet.{Bunch}
@@ -69,7 +70,7 @@ has_arrived past ch n = shows_arrival (option_fate past (carrier_of past ch n))
 abbrev pub is_due : Past → (channel number : ℕ) → Bool
 is_due past ch n = shows_need (option_fate past (carrier_of past ch n))
 
--- these many from a number on have arrived
+-- the `count` bunches from the number `from` on have arrived
 abbrev pub have_arrived : Past → (channel from count : ℕ) → Bool
 have_arrived past ch from count = list_all (has_arrived past ch) (range_with_len from count)
 
@@ -133,4 +134,5 @@ made_bunch ch n message i = record {
 -- the past with all parts of the message made
 abbrev pub after_making : Past → (channel : ℕ) → Message → Past
 after_making past ch message =
-    fold (λ (before : Past) (i : ℕ). Made ch (made_count past ch + 1 + i) message i ∷ before) past (range_with_len 0 (parts_of message))
+    fold (λ (before : Past) (i : ℕ). Made ch (made_count past ch + 1 + i) message i ∷ before) past
+    (range_with_len 0 (parts_of message))

@@ -1,4 +1,5 @@
--- What a call is answered, and what it adds to the past.
+-- What an end answers to a call of its own program, and what the call adds to its past.
+-- The refusals are asked in one order, and the first that holds is the answer: Dead, NotOpen, NotOwner, WindowFull.
 use Rattle.std.specs.Prelude.{ℕ, List, ◌∷◌, length, reverse, Bool, true, false, not, ◌&&◌, nat_lt, nat_le, Option, Some, None, filter_map, option_map, option_and_then, unwrap_or, if◌then◌else◌, pos}
 use Rattle.std.specs.Ordering.{int_eq}
 use Rattle.protocol_model.specs.Value.{Class, Call, Arg, goes_up, args_fit, call_at}
@@ -32,7 +33,8 @@ abbrev pub goes_from : Side → Way → Bool
 goes_from AtServer way = not (goes_up way)
 goes_from AtClient way = goes_up way
 
--- the class's call of that number, if it goes this way and the arguments fit it
+-- the class's call of that number, if it goes this way and the arguments fit it; of a call that doesn't fit the
+-- answer is NotOpen, and the rules of scripts leave such calls out
 abbrev pub fitting_call : Side → (number : ℕ) → List Arg → Class → Option Call
 fitting_call side number args class =
     option_and_then (λ (call : Call). then_some (goes_from side call.way && args_fit call.args args) call)
@@ -65,12 +67,13 @@ waits_in deed = None
 abbrev pub waiting_of : Past → List Message
 waiting_of past = reverse (filter_map waits_in (deeds_since_tick past))
 
--- the parts don't fit into the room of the channel, or 256 unreliable calls wait
+-- the parts don't fit into the room of the channel, or the most unreliable calls that may wait do wait
 abbrev pub is_full : Past → (channel : ℕ) → (reliable : Bool) → Message → Bool
 is_full past ch true message = nat_lt (room past ch) (parts_of message)
 is_full past ch false message = nat_le waiting_limit (length (waiting_of past))
 
--- the answer where the end is alive, by the channel and the call that are meant
+-- the answer where the end is alive, by the channel and the call that are meant; who owns the actor is asked
+-- before room
 abbrev pub answer_for : Side → Past → (actor number : ℕ) → List Arg → Option ℕ → Option Call → CallAnswer
 answer_for side past a number args None call = NotOpen
 answer_for side past a number args (Some ch) None = NotOpen

@@ -1,9 +1,10 @@
--- The last bunch that held a handle, and which handles are due.
+-- For each handle of an actor the last bunch that held it, its carry, and whether the handle is due by that carry.
+-- It is due where it was never carried, where its carry is lost, and where its value differs from the carry's.
 use Rattle.std.specs.Prelude.{ℕ, ◌==◌, List, [], Bool, true, false, not, ◌&&◌, ◌||◌, Option, Some, None, filter, unwrap_or, option_map, if◌then◌else◌, ℤ}
 use Rattle.std.specs.Ordering.{int_eq}
 use Rattle.protocol_model.specs.Cond.{updatable}
 use Rattle.protocol_model.specs.Value.{Prop, Pair, value_among, prop_at}
-use Rattle.protocol_model.specs.Payload.{Message, Opens, Updates}
+use Rattle.protocol_model.specs.Payload.{Opens, Updates}
 use Rattle.connection_model.specs.Feed.{Past, Deed, Made, Sent, Item, Loose}
 use Rattle.protocol_model.specs.Sight.{Seen}
 use Rattle.protocol_model.specs.declared.Fate.{Fate}
@@ -21,11 +22,6 @@ pub record Carry : Type 0 where
 -- a carry, where the bunch held the handle
 abbrev pub carry_in : Option ℕ → Option ℤ → Option Carry
 carry_in packet value = option_map (λ (v : ℤ). record { packet = packet; value = v }) value
-
--- the value of the handle in an open of the actor
-abbrev pub value_in_open : (actor handle : ℕ) → Message → Option ℤ
-value_in_open a h (Opens exports actor class values) = if actor == a then value_among values h else None
-value_in_open a h message = None
 
 -- the value of the handle in an update of the actor
 abbrev pub value_in_update : (actor handle : ℕ) → Item → Option ℤ

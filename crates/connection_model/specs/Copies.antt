@@ -1,4 +1,5 @@
--- A client's copies: the values last applied.
+-- A client's copies of actors: which there are, on which channel, and the values last applied to each.
+-- A copy begins with an open, and ends with a plain close or a Gone; a dormant close leaves it without a channel.
 use Rattle.std.specs.Prelude.{ℕ, ◌==◌, List, [], Bool, false, not, ◌&&◌, Option, Some, None, filter, filter_map, find, is_some, unwrap_or, option_map, if◌then◌else◌, ℤ, pos}
 use Rattle.std.specs.List.{flat_map}
 use Rattle.protocol_model.specs.Value.{Pair, Class, value_among, initial_value}

@@ -1,4 +1,5 @@
--- Which segments of a path the client knows.
+-- Which segments of a class's path the client knows, so that an open needn't export them again.
+-- A segment is known once a whole open that exported it has arrived.
 use Rattle.std.specs.Prelude.{ℕ, ◌==◌, List, Bool, false, not, ◌&&◌, filter}
 use Rattle.std.specs.List.{list_any}
 use Rattle.protocol_model.specs.Value.{Segment, Class}

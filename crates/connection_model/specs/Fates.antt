@@ -1,4 +1,5 @@
--- Numbers of packets: which are taken, which are owed or told, and what became of those sent.
+-- Numbers of packets: which an end took, which acknowledgements it owes, and what became of those that it sent.
+-- A packet that was sent is open until a greater or the same number is named, and then arrived or lost for good.
 use Rattle.std.specs.Prelude.{ℕ, ◌-◌, ◌*◌, ◌==◌, ◌%◌, List, [], ◌∷◌, ◌++◌, map, take, reverse, Bool, true, false, nat_lt, nat_le, Option, Some, None, filter_map, if◌then◌else◌, ℤ, pos, negsuc, ◌-ℤ◌, int_lt}
 use Rattle.std.specs.List.{flat_map, range_with_len}
 use Rattle.protocol_model.specs.Bits.{near, fixed_bits, number_of}
@@ -27,15 +28,15 @@ taken_of past = filter_map taken_in past
 abbrev pub top_of : Past → ℕ
 top_of past = greatest_of (taken_of past)
 
--- a received packet's number: the one nearest to the greatest taken
+-- a received packet's number: of those with the same residue the one nearest to the greatest taken
 abbrev pub number_near : Past → ℕ → ℤ
 number_near past n = near n (pos (top_of past)) 16384
 
--- it is taken if it is above that
+-- a packet is taken if its number is above the greatest taken
 abbrev pub is_new : Past → ℕ → Bool
 is_new past n = int_lt (pos (top_of past)) (number_near past n)
 
--- the numbers owed an acknowledgement: those taken since the last tick, the newest 512, oldest first
+-- the numbers owed an acknowledgement: of those taken since the last tick the newest, at most the limit, oldest first
 abbrev pub owed_of : Version → Past → List ℕ
 owed_of One past = reverse (take owed_limit (taken_of (deeds_since_tick past)))
 owed_of Two past = []

@@ -1,4 +1,5 @@
--- What one end of a connection hears, and what it does.
+-- What one end of a connection hears, event by event, and what it does, deed by deed.
+-- Both lists have their newest item first, and forget nothing.
 use Rattle.std.specs.Prelude.{ℕ, ◌==◌, List, [], length, Bool, true, false, ◌&&◌, option_map, Option, Some, None, is_some, unwrap_or, find, filter_map}
 use Rattle.std.specs.List.{list_any}
 use Rattle.protocol_model.specs.Value.{Table, Arg}

@@ -1,4 +1,5 @@
--- Calls queued on one end and handed over on the other.
+-- Calls: which were queued at one end, and which were handed over at the other and with what verdict.
+-- What is promised is that on each index those handed over are a prefix of those queued.
 use Rattle.std.specs.Prelude.{ℕ, ◌==◌, List, length, take, reverse, Bool, not, ◌&&◌, ◌-◌, Option, Some, None, filter_map, if◌then◌else◌}
 use Rattle.protocol_model.specs.Value.{Arg}
 use Rattle.protocol_model.specs.World.{Edits, lives, owns}

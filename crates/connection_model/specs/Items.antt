@@ -1,4 +1,5 @@
--- What a tick offers for sending, and in which order.
+-- What a tick offers for sending, and in which order: acknowledgements, due bunches, calls that waited, and then
+-- the actors by score, each with its open or its update.
 use Rattle.std.specs.Prelude.{ℕ, ◌-◌, ◌*◌, ◌==◌, List, [], ◌∷◌, ◌++◌, map, length, min, Bool, true, false, not, ◌&&◌, ◌||◌, nat_lt, nat_le, Option, Some, None, filter, filter_map, option_map, unwrap_or, if◌then◌else◌}
 use Rattle.std.specs.List.{list_any, flat_map, range_with_len}
 use Rattle.protocol_model.specs.Value.{Pair}

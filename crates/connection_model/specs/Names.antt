@@ -1,4 +1,5 @@
--- The names that a client learnt, and the classes that they name.
+-- The names that a client learnt from exports, and the classes that they name.
+-- A guid is learnt once, and no export may say another thing of it.
 use Rattle.std.specs.Prelude.{ℕ, zero, suc, ◌==◌, List, [], ◌∷◌, ◌++◌, length, reverse, Bool, true, false, not, ◌&&◌, ◌||◌, nat_le, Option, Some, None, is_none, find, option_map, option_and_then, if◌then◌else◌}
 use Rattle.std.specs.List.{list_all, fold, flat_map}
 use Rattle.std.specs.Str.{bytes_eq}
@@ -56,7 +57,7 @@ names_in d = elim d.message [ Opens exports actor class values ↦ exports | _ �
 abbrev pub names_of : Past → List Segment
 names_of past = fold names_with [] (flat_map names_in (reverse (delivered_of past)))
 
--- the names from the guid up to an outermost one, outermost first, of at most so many
+-- the names from the guid up to an outermost one, outermost first, where there are at most `most`
 abbrev pub path_up : List Segment → (most guid : ℕ) → Option (List (List ℕ))
 path_up names zero g = None
 path_up names (suc most) g = under (name_known names g) (λ outer. path_up names most outer)
@@ -64,7 +65,8 @@ path_up names (suc most) g = under (name_known names g) (λ outer. path_up names
     under : Option Segment → (ℕ → Option (List (List ℕ))) → Option (List (List ℕ))
     under None path_of = None
     under (Some s) path_of =
-        option_map (λ (path : List (List ℕ)). path ++ s.name ∷ []) (if s.outer == 0 then Some [] else path_of s.outer)
+        option_map (λ (path : List (List ℕ)). path ++ s.name ∷ [])
+        (if s.outer == 0 then Some [] else path_of s.outer)
 
 -- the path has these names
 abbrev pub same_names : List Segment → List (List ℕ) → Bool

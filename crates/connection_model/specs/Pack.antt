@@ -1,4 +1,6 @@
 -- What a tick does: closes, packets within the budget, opens and updates, an empty packet, and the stall.
+-- Items go in their order; after the first that finds no room nothing goes any more, so that the packets of a tick
+-- hold a prefix of its items, the longest that budget and limits let through.
 use Rattle.std.specs.Prelude.{ℕ, ◌+◌, ◌-◌, ◌*◌, ◌/◌, ◌%◌, List, [], ◌∷◌, ◌++◌, map, length, reverse, Bool, true, false, not, ◌&&◌, ◌||◌, nat_lt, nat_le, Option, Some, None, unwrap_or, if◌then◌else◌}
 use Rattle.std.specs.List.{fold, flat_map, range_with_len, sum_by}
 use Rattle.protocol_model.specs.Limits.{packet_modulus, unresolved_limit}
@@ -73,7 +75,8 @@ packet_carrying end past number items =
 -- its bits without the end bit
 abbrev pub packet_length : End → Past → List Item → ℕ
 packet_length end past items =
-    length (start_bits end.version 0 (head_of end.version past) ++ flat_map (λ item. rec_bits end.version (rec_of item)) items)
+    length
+    (start_bits end.version 0 (head_of end.version past) ++ flat_map (λ item. rec_bits end.version (rec_of item)) items)
 
 -- its bytes, the end bit included
 abbrev pub packet_size : End → Past → List Item → ℕ
@@ -82,9 +85,11 @@ packet_size end past items = (packet_length end past items + 1 + 7) / 8
 -- the current packet has room for the item
 abbrev pub fits_current : End → Past → List (List Item) → Item → Bool
 fits_current end past [] item = false
-fits_current end past (current ∷ packets) item = nat_le (packet_length end past (current ++ item ∷ []) + 1) 8192
+fits_current end past (current ∷ packets) item =
+    nat_le (packet_length end past (current ++ item ∷ []) + 1) 8192
 
--- the budget and the count of open packets let a new packet begin
+-- a packet may begin while the bits of those begun in this tick are below the budget, whatever its own size will be,
+-- and while fewer packets are open than the limit
 abbrev pub may_begin : End → Packing → Bool
 may_begin end p =
     nat_lt (8 * sum_by (packet_size end p.past) p.packets) end.budget
@@ -177,7 +182,7 @@ packets_to_send end before p =
 abbrev pub after_sending : Past → List Item → Past
 after_sending past items = Sent (last_sent past + 1) (tick_count past) items ∷ past
 
--- 4,096 open packets end the end
+-- as many open packets as the limit end the end
 abbrev pub after_stall : Past → Past
 after_stall past = if nat_le unresolved_limit (unresolved_count past) then Ended ByStall ∷ past else past
 

@@ -1,4 +1,5 @@
--- All that an end did, by recursion on what it heard. The newest event stands first.
+-- All that an end did, by recursion on what it heard, and the packets that it sent.
+-- An end's past and packets are determined by its own feed alone. The newest event stands first.
 use Rattle.std.specs.Prelude.{ℕ, List, [], ◌∷◌, ◌++◌}
 use Rattle.protocol_model.specs.Packet.{spelling_of}
 use Rattle.connection_model.specs.Feed.{End, Event, Tick, Got, Call, Past, Sent}
@@ -24,6 +25,6 @@ sent_bytes end (Sent number t items ∷ past) =
     sent_bytes end past ++ spelling_of end.version (packet_carrying end past number items) ∷ []
 sent_bytes end (deed ∷ past) = sent_bytes end past
 
--- an end's packets are determined by its own feed
+-- the packets of a feed, oldest first
 abbrev pub out_of : End → List Event → List (List ℕ)
 out_of end feed = sent_bytes end (past_of end feed)

@@ -1,4 +1,5 @@
 -- Reading a payload from left to right: the rules in the order in which their fields come.
+-- The order is part of the format: of the rules that a payload breaks the first one met gives the cause, and its bit.
 use Rattle.std.specs.Prelude.{ℕ, zero, suc, ◌+◌, ◌-◌, ◌%◌, ◌==◌, List, [], ◌∷◌, length, Bool, true, false, not, ◌&&◌, ◌||◌, nat_lt, nat_le, Option, Some, None, is_none, option_map, option_and_then, unwrap_or, if◌then◌else◌, ℤ, pos}
 use Rattle.std.specs.List.{fold}
 use Rattle.std.specs.Bool.{beq}
@@ -54,7 +55,7 @@ value_at Guid = natural_at number_at
 value_at (Enum count) = natural_at (int_at count)
 value_at (Bytes most) = give (pos 0)
 
--- handles ascend and are in the class; of these many more at most, above the last
+-- handles ascend and are in the class; at most `more` of them, above `last`
 abbrev pub pairs_at : Class → (more last : ℕ) → PayloadReading (List Pair)
 pairs_at class zero last = do
   _ ← field number_at (λ h. h == 0)
@@ -78,7 +79,7 @@ some_values_at class = do
   pairs ← pairs_at class (handle_count class - 1) h
   give (record { handle = h; value = v } ∷ pairs)
 
--- so many bytes
+-- n bytes
 abbrev pub octets_at : ℕ → PayloadReading (List ℕ)
 octets_at zero = give []
 octets_at (suc n) = do
@@ -86,7 +87,7 @@ octets_at (suc n) = do
   bytes ← octets_at n
   give (byte ∷ bytes)
 
--- an argument of at most so many bytes
+-- an argument of at most `most` bytes
 abbrev pub octets_arg_at : ℕ → PayloadReading Arg
 octets_arg_at most = do
   n ← int_at (most + 1)

@@ -1,4 +1,5 @@
--- When nothing is left to send of an actor.
+-- When an actor is settled for a player: nothing of it is left to send, and all that was sent has arrived.
+-- Of a settled actor the client's copy is promised to be what the player sees.
 use Rattle.std.specs.Prelude.{ℕ, ◌==◌, Bool, false, not, ◌&&◌, Option, Some, None}
 use Rattle.std.specs.List.{list_all}
 use Rattle.protocol_model.specs.Value.{Table}

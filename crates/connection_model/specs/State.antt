@@ -1,4 +1,5 @@
--- The state of an actor's channel at the server's end.
+-- The state of an actor's channel at the server's end, by the last open, close or Gone made of the actor and by what
+-- has arrived since. An actor that never was opened, or whose channel is gone, is Closed.
 use Rattle.std.specs.Prelude.{ℕ, ◌==◌, List, length, Bool, true, false, not, ◌&&◌, Option, Some, None, filter_map, option_map, is_some, if◌then◌else◌}
 use Rattle.std.specs.List.{list_any}
 use Rattle.protocol_model.specs.Value.{Class}

@@ -1,4 +1,6 @@
--- What an end makes of a datagram.
+-- What an end makes of a datagram: Taken, Old, Malformed, Closed with its cause, or Dead.
+-- Entries are applied from left to right up to the first that breaks a rule, which closes the end; what was done by
+-- then stays. The order of the rules is part of the format.
 use Rattle.std.specs.Prelude.{ℕ, ◌-◌, ◌==◌, List, [], ◌∷◌, map, length, Bool, true, false, not, ◌&&◌, ◌||◌, nat_lt, nat_le, Option, Some, None, is_some, is_none, Result, Ok, Err, if◌then◌else◌, pos, int_lt, unsigned_abs}
 use Rattle.protocol_model.specs.Reading.{Fault, Broken}
 use Rattle.protocol_model.specs.declared.Version.{Version}
@@ -41,7 +43,8 @@ abbrev pub lacks_copy : Side → Past → (kept : List Bunch) → Bunch → Bool
 lacks_copy AtServer past kept b = false
 lacks_copy AtClient past kept b =
     not (b.channel == 0)
-    && (if b.opens then is_some (copy_on past b.channel) else is_none (copy_on past b.channel) && not (b.reliable && nat_lt 0 (length kept)))
+    && (if b.opens then is_some (copy_on past b.channel)
+    else is_none (copy_on past b.channel) && not (b.reliable && nat_lt 0 (length kept)))
 
 -- the actor of a payload holds the channel now
 abbrev pub holds_now : Side → Past → (actor channel : ℕ) → Bool
@@ -77,7 +80,8 @@ bunch_result end past kept b =
     if lacks_copy end.side past kept b then Err (BadChannel b.channel)
     else elim (part_fault kept b b.part) [
       | Some why ↦ Err (BadPart b.channel why)
-      | None ↦ if ends_payload b then payload_result end past (first_of kept_before b) (joined_bits kept_before b) else Ok None
+      | None ↦ if ends_payload b then payload_result end past (first_of kept_before b) (joined_bits kept_before b)
+          else Ok None
     ]
   where
     kept_before : List Bunch
@@ -109,7 +113,7 @@ bunches_result end past kept (b ∷ bunches) = elim (bunch_result end past kept 
   | Ok (Some d) ↦ bunches_result end (with_handed d past) [] bunches
 ]
 
--- the connection holds 512 bunches already
+-- the connection holds as many bunches past gaps as it may already
 abbrev pub overrun_cause : Past → (channel : ℕ) → Option Cause
 overrun_cause past ch = then_some (nat_le held_limit (held_count past)) (Overrun ch)
 

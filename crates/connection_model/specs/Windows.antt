@@ -1,4 +1,5 @@
--- Reliable bunches received: those with the next numbers, those held past a gap, and the payloads they join to.
+-- Reliable bunches received on a channel: those with the next numbers, which are applied, those held past a gap, and
+-- the payloads that they join to. A bunch is applied when all with lower numbers were.
 use Rattle.std.specs.Prelude.{ℕ, ◌-◌, ◌==◌, List, [], ◌∷◌, map, length, reverse, Bool, true, false, not, ◌&&◌, ◌||◌, nat_lt, nat_le, Option, Some, None, filter, filter_map, sum_by, if◌then◌else◌, ℤ, pos, negsuc}
 use Rattle.std.specs.List.{flat_map, range_with_len}
 use Rattle.protocol_model.specs.Bits.{near}
@@ -27,7 +28,7 @@ numbers_of got = map (λ (r : Received). r.0) got
 abbrev pub next_of : List Received → ℕ
 next_of got = least_from (λ n. not (is_among n (numbers_of got))) (length got) 1
 
--- a bunch's number: the one nearest to the next
+-- a bunch's number: of those with the same residue the one nearest to the next
 abbrev pub number_as : List Received → Bunch → ℤ
 number_as got b = near b.seq (pos (next_of got)) 1024
 
@@ -51,7 +52,7 @@ with_offer got b Repeat = got
 with_offer got b Ready = (next_of got, b) ∷ got
 with_offer got b (Held n) = (n, b) ∷ got
 
--- the first bunch of each number counts
+-- what was received, with this bunch if its number is new: the first bunch of each number counts
 abbrev pub with_bunch : List Received → Bunch → List Received
 with_bunch got b = with_offer got b (offer_of got (number_as got b))
 
@@ -73,7 +74,7 @@ received_on past ch = received_by (entries_of past) ch
 abbrev pub as_number : ℕ → Received → Option Bunch
 as_number n r = then_some (r.0 == n) r.1
 
--- the bunches with these many numbers from one on
+-- the bunches with the `count` numbers from `from` on
 abbrev pub run_of : List Received → (from count : ℕ) → List Bunch
 run_of got from count = filter_map (λ n. newest_of (as_number n) got) (range_with_len from count)
 
@@ -158,7 +159,8 @@ first_of (b ∷ kept) last = first_of kept b
 abbrev pub wholes_from : (kept : List Bunch) → List Bunch → List (Bunch × List Bool)
 wholes_from kept [] = []
 wholes_from kept (b ∷ run) =
-    if ends_payload b then (first_of kept b, joined_bits kept b) ∷ wholes_from [] run else wholes_from (b ∷ kept) run
+    if ends_payload b then (first_of kept b, joined_bits kept b) ∷ wholes_from [] run
+    else wholes_from (b ∷ kept) run
 
 -- the whole payloads that were received on a channel, in order
 abbrev pub wholes_of : Past → (channel : ℕ) → List (Bunch × List Bool)
