@@ -30,7 +30,7 @@ top_of past = greatest_of (taken_of past)
 
 -- a received packet's number: of those with the same residue the one nearest to the greatest taken
 abbrev pub number_near : Past → ℕ → ℤ
-number_near past n = near n (pos (top_of past)) 16384
+number_near past n = near n (pos (top_of past)) packet_modulus
 
 -- a packet is taken if its number is above the greatest taken
 abbrev pub is_new : Past → ℕ → Bool

@@ -3,7 +3,7 @@
 -- hold a prefix of its items, the longest that budget and limits let through.
 use Rattle.std.specs.Prelude.{ℕ, ◌+◌, ◌-◌, ◌*◌, ◌/◌, ◌%◌, List, [], ◌∷◌, ◌++◌, map, length, reverse, Bool, true, false, not, ◌&&◌, ◌||◌, nat_lt, nat_le, Option, Some, None, unwrap_or, if◌then◌else◌}
 use Rattle.std.specs.List.{fold, flat_map, range_with_len, sum_by}
-use Rattle.protocol_model.specs.Limits.{packet_modulus, unresolved_limit}
+use Rattle.protocol_model.specs.Limits.{packet_bytes, packet_modulus, unresolved_limit}
 use Rattle.protocol_model.specs.Value.{Pair}
 use Rattle.protocol_model.specs.declared.Version.{Version}
 use Rattle.protocol_model.specs.declared.Version.TheVariants.{One, Two}
@@ -86,14 +86,14 @@ packet_size end past items = (packet_length end past items + 1 + 7) / 8
 abbrev pub fits_current : End → Past → List (List Item) → Item → Bool
 fits_current end past [] item = false
 fits_current end past (current ∷ packets) item =
-    nat_le (packet_length end past (current ++ item ∷ []) + 1) 8192
+    nat_le (packet_length end past (current ++ item ∷ []) + 1) (8 * packet_bytes)
 
 -- a packet may begin while the bits of those begun in this tick are below the budget, whatever its own size will be,
 -- and while fewer packets are open than the limit
 abbrev pub may_begin : End → Packing → Bool
 may_begin end p =
     nat_lt (8 * sum_by (packet_size end p.past) p.packets) end.budget
-    && nat_lt (unresolved_count p.past + length p.packets) 4096
+    && nat_lt (unresolved_count p.past + length p.packets) unresolved_limit
 
 -- the item would find room
 abbrev pub has_room : End → Packing → Item → Bool

@@ -11,7 +11,7 @@ use Rattle.protocol_model.specs.declared.PartWhy.TheVariants.{Oversize, Flags, R
 use Rattle.connection_model.specs.Feed.{Past, Entry, Heard}
 use Rattle.connection_model.specs.Fates.{entries_of}
 use Rattle.std.specs.Bool.{then_some}
-use Rattle.protocol_model.specs.Limits.{part_bits, part_limit}
+use Rattle.protocol_model.specs.Limits.{part_bits, part_limit, sequence_modulus}
 use Rattle.protocol_model.specs.Search.{is_among, least_from, items_since, ascending_numbers, newest_of}
 
 -- ---- numbers
@@ -30,7 +30,7 @@ next_of got = least_from (λ n. not (is_among n (numbers_of got))) (length got) 
 
 -- a bunch's number: of those with the same residue the one nearest to the next
 abbrev pub number_as : List Received → Bunch → ℤ
-number_as got b = near b.seq (pos (next_of got)) 1024
+number_as got b = near b.seq (pos (next_of got)) sequence_modulus
 
 -- it is the next, it is above that and new, or it isn't new
 pub data Offer : Type 0 where
