@@ -1,2 +1,4 @@
-mod Examples
+mod Ends
+mod SendingExamples
+mod ReceivingExamples
 mod Laws
