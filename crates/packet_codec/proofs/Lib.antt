@@ -1,14 +1,5 @@
-pub mod Numbers
-pub mod ReadBack
-pub mod PacketBack
-pub mod Content
-pub mod PacketLaws
-pub mod Lengths
+mod ContentEnd
 pub mod Puts
-pub mod Encoded
-pub mod Loops
-pub mod Stopping
-pub mod FieldsSpelled
-pub mod BunchSpelled
-pub mod PacketSpelled
-pub mod BytesSpelled
+mod Encoded
+mod Loops
+mod Stopping

@@ -1,10 +1,9 @@
 -- Reading a list turn by turn.
-use Rattle.std.proofs.Common.{◌≡◌, ℕ, zero, suc, ◌<◌, ◌≤◌, ◌+◌, ◌-◌, ◌==◌, List, [], ◌∷◌, ◌++◌, Bool, false, Result, Ok, Err, refl, sym, ap, ◌∙◌, arith, length, append_assoc, append-nil, length-append, length-drop, map, take, drop, replicate, set, get_or, drop-cons, subst}
+use Rattle.std.proofs.Common.{◌≡◌, ℕ, zero, suc, ◌<◌, ◌≤◌, ◌+◌, ◌-◌, List, [], ◌∷◌, ◌++◌, Bool, Result, Ok, Err, refl, sym, ap, ◌∙◌, arith, length, append_assoc, append-nil, length-append, length-drop, map, take, drop, replicate, set, get_or, drop-cons, subst}
 use Rattle.std.proofs.lemmas.List.{take_more_set, drop-set-lt, map-append, length-replicate}
 use Rattle.std.proofs.lemmas.List.Elements.{All-append}
 use Rattle.std.specs.Borrow.{Bor}
 use Rattle.std.specs.Prelude.{All}
-use Rattle.std.proofs.lemmas.Bool.Decides.{nat_tests}
 use Rattle.protocol_model.specs.Reading.{Fault, ◌>>=◌, left, fixed_at}
 use Rattle.protocol_model.specs.Packet.{Rec}
 use Rattle.protocol_model.specs.PacketReading.{words_at, recs_at, rec_at}
@@ -13,6 +12,7 @@ use Rattle.protocol_model.specs.declared.Why.{Why}
 use Rattle.bit_io.specs.declared.lent.BitReader.{BitReader}
 use Rattle.bit_io.specs.Lent.{bits_left}
 use Rattle.bit_io.proofs.Places.{length-between}
+use Rattle.protocol_laws.proofs.Bounds.{not_zero}
 use Rattle.packet_codec.specs.Reads.{GoesOn}
 use Rattle.packet_codec.specs.Lent.{IsLentFrom}
 use Rattle.packet_codec.specs.Values.{rec_of}
@@ -38,15 +38,12 @@ words_more count front word bits rest e = rw (words_at, ◌>>=◌, e) (behind_on
 pub words_fault : (count : ℕ) (front : List ℕ) (bits : List Bool) (fault : Fault Why) → fixed_at {Why = Why} 32 bits ≡ Err fault → behind front (words_at (suc count) bits) ≡ Err fault
 words_fault count front bits fault e = rw (words_at, ◌>>=◌, e) refl
 
-some_left : (n : ℕ) → 1 ≤ n → (n == 0) ≡ false
-some_left n h = grind (arith, nat_tests)
-
 -- one more entry
 pub recs_more : (version : Version) (most : ℕ) (front : List Rec) (rec : Rec) (bits rest : List Bool) → 1 ≤ length bits → rec_at version bits ≡ Ok (rec, rest) → behind front (recs_at version (suc most) bits) ≡ behind (front ++ rec ∷ []) (recs_at version most rest)
-recs_more version most front rec bits rest h e = rw (recs_at, ◌>>=◌, left, some_left (length bits) h, e) (behind_one front rec (recs_at version most rest))
+recs_more version most front rec bits rest h e = rw (recs_at, ◌>>=◌, left, not_zero (length bits) h, e) (behind_one front rec (recs_at version most rest))
 
 pub recs_fault : (version : Version) (most : ℕ) (front : List Rec) (bits : List Bool) (fault : Fault Why) → 1 ≤ length bits → rec_at version bits ≡ Err fault → behind front (recs_at version (suc most) bits) ≡ Err fault
-recs_fault version most front bits fault h e = rw (recs_at, ◌>>=◌, left, some_left (length bits) h, e) refl
+recs_fault version most front bits fault h e = rw (recs_at, ◌>>=◌, left, not_zero (length bits) h, e) refl
 
 -- no more entries
 pub recs_end : (version : Version) (most : ℕ) (front : List Rec) (bits : List Bool) → length bits ≡ 0 → behind front (recs_at version most bits) ≡ Ok (front, bits)

@@ -7,7 +7,7 @@ use Rattle.protocol_model.specs.Bits.{bytes_of}
 use Rattle.bit_io.specs.Written.{Written, Appends}
 use Rattle.protocol_laws.proofs.BytesLaws.{bits_of-bytes_of}
 use Rattle.protocol_laws.proofs.Lengths.{length-bits_of}
-use Rattle.packet_codec.proofs.ReadBack.{left_of, right_of}
+use Rattle.protocol_laws.proofs.Booleans.{left_of, right_of}
 
 -- nothing is put
 pub appends_none : (w : Written) → Appends w w []

@@ -1,5 +1,6 @@
 -- What a refusal says of the bytes.
 use Rattle.std.specs.Prelude.{◌≡◌, ℕ, ◌≤◌, ◌*◌, List, length, take, Err, ⊤}
+use Rattle.protocol_model.specs.Limits.{packet_bytes}
 use Rattle.protocol_model.specs.Bits.{bits_of}
 use Rattle.protocol_model.specs.PacketReading.{packet_of, content_of, content_read}
 use Rattle.protocol_model.specs.declared.Version.{Version}
@@ -16,4 +17,4 @@ pub record EndsAt (bytes : List ℕ) (end : ℕ) : Type 0 where
   pub content : content_of bytes ≡ take end (bits_of bytes)
   pub decides : (version : Version) → packet_of version bytes ≡ content_read version (content_of bytes)
   pub within : end ≤ 8 * length bytes
-  pub small : length bytes ≤ 1024
+  pub small : length bytes ≤ packet_bytes

@@ -5,9 +5,20 @@ use Rattle.protocol_model.specs.Packet.{Bunch, Rec, Ack, Sends, Packet, is_rec, 
 use Rattle.protocol_model.specs.declared.Version.{Version}
 use Rattle.bit_io.specs.HeadOf.{head_of}
 use Rattle.bit_io.specs.Lent.{slice_bits}
+use Rattle.protocol_laws.specs.Fields.{Opening, Standing}
+use Rattle.packet_codec.specs.declared.entries.Opening.{Opening as OpeningValue}
+use Rattle.packet_codec.specs.declared.entries.Standing.{Standing as StandingValue}
 use Rattle.packet_codec.specs.declared.packet.Bunch.{Bunch as BunchValue}
 use Rattle.packet_codec.specs.declared.packet.Rec.{Rec as RecValue}
 use Rattle.packet_codec.specs.declared.packet.Packet.{Packet as PacketValue}
+
+-- what the header says before the channel
+abbrev pub opening_of : OpeningValue → Opening
+opening_of o = record { opens = o.opens; closes = o.closes; sleeps = o.sleeps; reliable = o.reliable }
+
+-- what it says from the channel up to the number
+abbrev pub standing_of : StandingValue → Standing
+standing_of s = record { channel = s.channel; exports = s.exports; partial = s.partial }
 
 -- the bunch, with the bits of its payload
 abbrev pub bunch_of : BunchValue → Bunch

@@ -2,7 +2,7 @@
 ghost use Rattle.std.specs.Prelude.{◌≡◌, ◌<◌, ◌^◌, ℕ, Bool, IsTrue, length};
 ghost use Rattle.protocol_model.specs.Packet.{rec_bits, Sends, is_bunch, channel_bits, channel_limit};
 ghost use Rattle.packet_codec.specs.Values.{bunch_of};
-ghost use Rattle.packet_codec.specs.Parts.{control_bits, numbered_bits};
+ghost use Rattle.protocol_laws.specs.Parts.{control_bits, numbered_bits};
 
 use crate::packet::Bunch;
 use protocol_model::{Part, Version};
@@ -33,7 +33,7 @@ pub fn bunch_bits(version: Version, b: &Bunch) -> usize
 }
 
 /// How many bits the flags before the channel take.
-#[tactic(auto, using(crate::proofs::Lengths::control_length))]
+#[tactic(auto, using(protocol_laws::proofs::FieldLengths::control_length))]
 fn control_width(opens: bool, closes: bool) -> usize
     ensures width { (sleeps reliable : Bool) → result ≡ length (control_bits opens closes sleeps reliable) }
     ensures most { result < 2 ^ 8 }
@@ -43,7 +43,7 @@ fn control_width(opens: bool, closes: bool) -> usize
 }
 
 /// How many bits the numbers and the flags of a part take.
-#[tactic(auto, using(crate::proofs::Lengths::numbered_length))]
+#[tactic(auto, using(protocol_laws::proofs::FieldLengths::numbered_length))]
 fn numbered_width(reliable: bool, part: Part) -> usize
     ensures width { (seq kind : ℕ) → result ≡ length (numbered_bits reliable seq part kind) }
     ensures most { result < 2 ^ 8 }

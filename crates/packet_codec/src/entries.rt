@@ -2,8 +2,8 @@
 ghost use Rattle.std.specs.Prelude.{◌≡◌, ◌<◌, ◌+◌, OnOk, IfOk};
 ghost use Rattle.protocol_model.specs.PacketReading.{bunch_at, part_of, rec_at, ack_at};
 ghost use Rattle.packet_codec.specs.Reads.{Follows, FollowsAs, GoesOn};
-ghost use Rattle.packet_codec.specs.Fields.{on_channel_at, numbered_at};
-ghost use Rattle.packet_codec.specs.Values.{bunch_of, rec_of};
+ghost use Rattle.protocol_laws.specs.Fields.{on_channel_at, numbered_at};
+ghost use Rattle.packet_codec.specs.Values.{bunch_of, rec_of, opening_of, standing_of};
 ghost use Rattle.packet_codec.specs.Lent.{IsLentFrom};
 
 use crate::fault::Fault;
@@ -80,7 +80,7 @@ fn on_channel<'a>(
     reader: &mut BitReader<'a>,
     opening: Opening,
 ) -> Result<Bunch<'a>, Fault>
-    ensures exact { FollowsAs bunch_of (on_channel_at version opening) reader.old reader.new result }
+    ensures exact { FollowsAs bunch_of (on_channel_at version (opening_of opening)) reader.old reader.new result }
     ensures lent { IfOk result (λ b. b.payload.bytes ≡ reader.old.bytes) }
     ensures on { OnOk result (GoesOn reader.old reader.new) }
 {
@@ -105,7 +105,7 @@ fn numbered<'a>(
     opening: Opening,
     standing: Standing,
 ) -> Result<Bunch<'a>, Fault>
-    ensures exact { FollowsAs bunch_of (numbered_at opening standing) reader.old reader.new result }
+    ensures exact { FollowsAs bunch_of (numbered_at (opening_of opening) (standing_of standing)) reader.old reader.new result }
     ensures lent { IfOk result (λ b. b.payload.bytes ≡ reader.old.bytes) }
     ensures on { OnOk result (GoesOn reader.old reader.new) }
 {

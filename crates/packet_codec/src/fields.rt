@@ -4,7 +4,7 @@ ghost use Rattle.protocol_model.specs.Reading.{bit_at, bits_at, int_at, fixed_at
 ghost use Rattle.protocol_model.specs.PacketReading.{read_if, channel_at};
 ghost use Rattle.bit_io.specs.Lent.{MovesBy, slice_bits};
 ghost use Rattle.packet_codec.specs.Reads.{Follows, FollowsAs, GoesOn};
-ghost use Rattle.packet_codec.specs.Fields.{closes_at, reserved_at, reliable_at, exports_at, partial_at, kind_at};
+ghost use Rattle.protocol_laws.specs.Fields.{closes_at, reserved_at, reliable_at, exports_at, partial_at, kind_at};
 
 use crate::fault::Fault;
 use bit_io::{BitReader, BitSlice, Short};

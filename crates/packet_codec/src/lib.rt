@@ -6,9 +6,9 @@
 //
 // It stands on `bit_io` for numbers in bits, and on `protocol_model` for what a packet is and which
 // rule its bytes break first. It promises that `decode` answers exactly that packet, or exactly that
-// rule and its bit, with each payload lent from the datagram; that `encode`, `put_start` and
-// `put_rec` write exactly the spelling; and, in `laws`, that packets and their spellings belong to
-// each other one to one. It keeps nothing from packet to packet and knows no channel's state, no
+// rule and its bit, with each payload lent from the datagram; and that `encode`, `put_start` and
+// `put_rec` write exactly the spelling. That packets and spellings belong to each other one to one
+// stands in `protocol_laws`. It keeps nothing from packet to packet and knows no channel's state, no
 // payload's meaning and no input or output.
 #![tactic(auto)]
 
@@ -17,7 +17,6 @@ mod decoding;
 mod entries;
 mod fault;
 mod fields;
-pub mod laws;
 mod packet;
 mod read;
 #[cfg(test)]

@@ -12,7 +12,7 @@ const OPENING: [u8; 45] = [
 
 /// Reads the bytes and spells again what was read.
 fn spelled_again(alloc: Global, version: Version, bytes: &[u8]) -> Result<Option<Blob>, Memory> {
-    laws::packet_was_spelled();
+    protocol_laws::packets::packet_was_spelled();
     match decode(alloc, version, bytes) {
         Ok(packet) => Ok(Some(encode(alloc, version, &packet)?)),
         Err(DecodeRefusal::Malformed { at: _, why: _ }) => Ok(None),

@@ -6,7 +6,7 @@ ghost use Rattle.bit_io.specs.HeadOf.{head_of, IsHead};
 ghost use Rattle.bit_io.specs.Lent.{slice_bits};
 ghost use Rattle.bit_io.specs.Written.{Appends};
 ghost use Rattle.packet_codec.specs.Values.{bunch_of, rec_of, packet_value, are_recs, recs_bits};
-ghost use Rattle.packet_codec.specs.Parts.{control_bits, standing_bits, numbered_bits, words_bits};
+ghost use Rattle.protocol_laws.specs.Parts.{control_bits, standing_bits, numbered_bits, words_bits};
 
 use crate::packet::{Bunch, Packet, Rec};
 use bit_io::{BitSlice, BitWriter, Blob, Head, Memory};

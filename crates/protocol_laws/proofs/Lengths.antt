@@ -28,3 +28,6 @@ length-packed_in (suc groups) v = by_test (nat_lt v 128) (length-packed_in group
 -- a packed number has at most 40 bits
 pub length-packed : (v : ℕ) → length (packed_bits v) ≤ 40
 length-packed v = length-packed_in 5 v
+
+-- these lengths, for a function's `using(..)`
+pub ruleset lengths = (length-digits, length-signed)

@@ -1,3 +1,4 @@
+pub mod Booleans
 pub mod Bounds
 pub mod Digits
 pub mod Reading
@@ -12,3 +13,13 @@ pub mod Lengths
 pub mod BytesLaws
 pub mod TwosComplement
 pub mod Greatest
+pub mod FieldsBack
+pub mod FieldLengths
+pub mod FieldsSpelled
+pub mod BunchBack
+pub mod BunchSpelled
+pub mod PacketBack
+pub mod PacketSpelled
+pub mod Content
+pub mod PacketLaws
+pub mod BytesSpelled

@@ -1,2 +1,4 @@
 pub mod Packed
 pub mod IntWidth
+pub mod Parts
+pub mod Fields

@@ -1,12 +1,13 @@
 // Laws of the protocol's definitions, for every crate that reads what another wrote.
 //
-// `protocol_model` says what a number's spelling is and what is read of bits. Here stands that the
-// two belong to each other one to one, as contracts of functions that do nothing, and the lemmas
-// from which that follows, for the crates above to cite. There is no code here.
+// `protocol_model` says how numbers and packets are spelled, and what is read of bits and bytes. Here
+// stands that the two belong to each other one to one, as contracts of functions that do nothing,
+// and the lemmas from which that follows, for the crates above to cite.
 //
-//     v  --int_bits max-->  1011...  --leading_int max-->  v, and the bits behind
+//     number  --int_bits max-->         bits   --leading_int max-->   number, and the bits behind
+//     packet  --spelling_of version-->  bytes  --packet_of version-->  packet
 //
-// It stands on `protocol_model` alone. It promises nothing of any program.
+// It stands on `protocol_model` alone. It has no code, and promises nothing of any program.
 //
 // A caller that put `v` and then reads it cites the lemma behind `numbers::int_is_read_back`:
 //
@@ -17,3 +18,4 @@
 
 pub mod bytes;
 pub mod numbers;
+pub mod packets;

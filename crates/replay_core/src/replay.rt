@@ -14,7 +14,7 @@ use crate::client::Client;
 use crate::server::Server;
 use bit_io::Memory;
 use net_core::{Guid, Items, Player, Text};
-use packet_codec::laws::packet_is_read_back;
+use protocol_laws::packets::packet_is_read_back;
 use pawn_open::Pawn;
 use script_text::{Delivery, Event, Line, Named, NamedList};
 use std::alloc::Global;

@@ -1,5 +1,5 @@
 use Rattle.std.proofs.Common.{sym}
-use Rattle.packet_codec.proofs.Lengths.{channel_13, channel_14, packed_8, packed_16, packed_24}
+use Rattle.protocol_laws.proofs.FieldLengths.{channel_13, channel_14, packed_8, packed_16, packed_24}
 use Rattle.packet_codec.proofs.bits.channel_width.Goals as goal
 
 pub returns-then-channel-lt2048-clause-width : goal.returns-then-channel-lt2048-clause-width

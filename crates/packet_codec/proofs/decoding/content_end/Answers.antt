@@ -1,6 +1,6 @@
 use Rattle.std.proofs.Common.{◌-◌, sym, length, arith}
 use Rattle.std.proofs.lemmas.Option.{get_or_from_slice_get}
-use Rattle.packet_codec.proofs.Content.{content_ends}
+use Rattle.packet_codec.proofs.ContentEnd.{content_ends}
 use Rattle.packet_codec.proofs.decoding.content_end.Goals as goal
 
 pub returns : goal.returns

@@ -1,6 +1,6 @@
 use Rattle.std.proofs.lemmas.Grind.{get_or_default_zero}
 use Rattle.packet_codec.specs.Values.{packet_value}
-use Rattle.packet_codec.proofs.PacketLaws.{spelled_itself}
+use Rattle.protocol_laws.proofs.PacketLaws.{spelled_itself}
 use Rattle.packet_codec.proofs.tests.spelled_again.Goals as goal
 
 pub encode-requires-clause-spelled : goal.encode-requires-clause-spelled

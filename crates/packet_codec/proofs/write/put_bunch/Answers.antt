@@ -3,10 +3,10 @@ use Rattle.protocol_model.specs.Bits.{int_bits}
 use Rattle.protocol_model.specs.Packet.{channel_bits}
 use Rattle.bit_io.specs.Written.{Appends}
 use Rattle.packet_codec.specs.Values.{bunch_of}
-use Rattle.packet_codec.specs.Parts.{control_bits, standing_bits, numbered_bits}
-use Rattle.packet_codec.proofs.Lengths.{bunch_length}
+use Rattle.protocol_laws.specs.Parts.{control_bits, standing_bits, numbered_bits}
+use Rattle.protocol_laws.proofs.FieldLengths.{bunch_length}
 use Rattle.packet_codec.proofs.Puts.{appends_five}
-use Rattle.packet_codec.proofs.ReadBack.{bunch_bits-parts, rules_of}
+use Rattle.protocol_laws.proofs.BunchBack.{bunch_bits-parts, rules_of}
 use Rattle.packet_codec.proofs.write.put_bunch.Goals as goal
 
 pub put_channel-requires-clause-room : goal.put_channel-requires-clause-room

@@ -1,5 +1,5 @@
 use Rattle.std.proofs.Common.{arith, take, length-take, length, ◌-◌}
-use Rattle.packet_codec.proofs.Lengths.{power_width}
+use Rattle.protocol_laws.proofs.FieldLengths.{power_width}
 use Rattle.packet_codec.proofs.write.put_head.Goals as goal
 
 pub put_int-requires-2-clause-room : goal.put_int-requires-2-clause-room

@@ -1,5 +1,5 @@
 use Rattle.std.proofs.Common.{arith}
-use Rattle.packet_codec.proofs.Lengths.{power_width}
+use Rattle.protocol_laws.proofs.FieldLengths.{power_width}
 use Rattle.packet_codec.proofs.write.put_payload.Goals as goal
 
 pub put_slice-requires : goal.put_slice-requires

@@ -1,5 +1,5 @@
 use Rattle.std.proofs.Common.{arith}
-use Rattle.packet_codec.proofs.Lengths.{power_width}
+use Rattle.protocol_laws.proofs.FieldLengths.{power_width}
 use Rattle.packet_codec.proofs.write.put_start.Goals as goal
 
 pub put_head-requires-clause-room : goal.put_head-requires-clause-room

@@ -1,5 +1,5 @@
 use Rattle.std.proofs.Common.{arith, take, length-take}
-use Rattle.packet_codec.proofs.Lengths.{words_length}
+use Rattle.protocol_laws.proofs.FieldLengths.{words_length}
 use Rattle.packet_codec.proofs.write.put_words.Goals as goal
 
 pub put_fixed-requires-clause-room : goal.put_fixed-requires-clause-room

@@ -1,7 +1,8 @@
 -- Only a packet that was spelled is read.
-use Rattle.std.proofs.Common.{◌≡◌, ℕ, zero, suc, ◌<◌, ◌≤◌, ◌+◌, ◌-◌, ◌^◌, ◌==◌, List, [], ◌∷◌, ◌++◌, Bool, true, false, nat_lt, nat_le, Ok, refl, sym, ap, ◌∙◌, subst, arith, length, length-append, append_assoc}
+use Rattle.std.proofs.Common.{◌≡◌, ℕ, zero, suc, ◌<◌, ◌≤◌, ◌+◌, ◌-◌, ◌^◌, ◌==◌, List, [], ◌∷◌, ◌++◌, Bool, true, false, nat_lt, Ok, refl, sym, ap, ◌∙◌, subst, arith, length, length-append, append_assoc}
 use Rattle.std.specs.List.{flat_map, list_all}
 use Rattle.std.proofs.lemmas.Bool.Decides.{nat_tests}
+use Rattle.std.proofs.lemmas.Bool.{le-leb, lt-ltb}
 use Rattle.protocol_model.specs.Bits.{int_bits, fixed_bits}
 use Rattle.protocol_model.specs.Reading.{Reading, ◌>>=◌, give, left, int_at, fixed_at}
 use Rattle.protocol_model.specs.Packet.{Head, Rec, Ack, Sends, Packet, rec_bits, is_rec, is_head, start_bits}
@@ -9,10 +10,11 @@ use Rattle.protocol_model.specs.PacketReading.{rec_at, recs_at, words_at, head_a
 use Rattle.protocol_model.specs.declared.Version.{Version}
 use Rattle.protocol_model.specs.declared.Version.TheVariants.{One, Two}
 use Rattle.protocol_model.specs.declared.Why.{Why}
-use Rattle.packet_codec.specs.Parts.{words_bits}
-use Rattle.packet_codec.proofs.FieldsSpelled.{Reads, then_of, ok_same, ok_parts, int_spelled, fixed_spelled}
-use Rattle.packet_codec.proofs.BunchSpelled.{bunch_spelled, both, is_lower}
-use Rattle.packet_codec.proofs.PacketBack.{rec_bits-some}
+use Rattle.protocol_laws.specs.Parts.{words_bits}
+use Rattle.protocol_laws.proofs.Booleans.{both}
+use Rattle.protocol_laws.proofs.FieldsSpelled.{Reads, then_of, ok_same, ok_parts, int_spelled, fixed_spelled}
+use Rattle.protocol_laws.proofs.BunchSpelled.{bunch_spelled}
+use Rattle.protocol_laws.proofs.PacketBack.{rec_bits-some}
 
 -- the bits begin with the spelling of the entry that is read
 record RecSpelled (version : Version) (bits : List Bool) (got : Rec × List Bool) : Type 0 where
@@ -30,7 +32,7 @@ ack_one : (bits : List Bool) (got : Rec × List Bool) → ack_at bits ≡ Ok got
 ack_one bits got h =
     let a = then_of (int_at 16384) (λ number. give (Ack number)) bits got h in
     let s = int_spelled 16384 a.value bits a.rest (omega arith) (omega arith) a.first in
-    let here : RecSpelled One (true ∷ bits) (Ack a.value, a.rest) = record { rules = is_lower _ _ s.0; bits_are = ap (λ (more : List Bool). true ∷ more) s.1 } in
+    let here : RecSpelled One (true ∷ bits) (Ack a.value, a.rest) = record { rules = lt-ltb _ _ s.0; bits_are = ap (λ (more : List Bool). true ∷ more) s.1 } in
     subst (λ (got : Rec × List Bool). RecSpelled One (true ∷ bits) got) (ok_same (Ack a.value, a.rest) got a.second) here
 
 rec_spelled : (version : Version) (bits : List Bool) (got : Rec × List Bool) → rec_at version bits ≡ Ok got → RecSpelled version bits got
@@ -101,7 +103,7 @@ words_spelled (suc count) bits got h =
     let b = then_of (words_at count) (λ words. give (a.value ∷ words)) a.rest got a.second in
     let more = words_spelled count a.rest (b.value, b.rest) b.first in
     let here : WordsSpelled (suc count) bits (a.value ∷ b.value, b.rest) = record {
-      rules = both _ _ (is_lower _ _ s.0) more.rules;
+      rules = both _ _ (lt-ltb _ _ s.0) more.rules;
       count_is = ap suc more.count_is;
       bits_are = s.1 ∙ ap (λ (rest : List Bool). fixed_bits 32 a.value ++ rest) more.bits_are ∙ sym (append_assoc (fixed_bits 32 a.value) (words_bits b.value) b.rest);
     } in
@@ -116,9 +118,6 @@ head_bits Two head = int_bits 16384 head.top ++ (int_bits 8 (length head.words -
 record HeadSpelled (version : Version) (bits : List Bool) (got : Head × List Bool) : Type 0 where
   pub rules : is_head version got.0 ≡ true
   pub bits_are : bits ≡ head_bits version got.0 ++ got.1
-
-least_is : (m n : ℕ) → m ≤ n → nat_le m n ≡ true
-least_is m n h = grind (arith, nat_tests)
 
 head_spelled : (version : Version) (bits : List Bool) (got : Head × List Bool) → head_at version bits ≡ Ok got → HeadSpelled version bits got
 head_spelled One bits got h =
@@ -138,7 +137,7 @@ head_spelled Two bits got h =
     let less : b.value ≡ length w.value - 1 = omega (arith, long) in
     let it : Head = record { top = a.value; words = w.value } in
     let here : HeadSpelled Two bits (it, w.rest) = record {
-      rules = both _ _ (both _ _ (both _ _ (is_lower _ _ top.0) (least_is _ _ (omega (arith, long)))) (least_is _ _ (omega (arith, long, below)))) words.rules;
+      rules = both _ _ (both _ _ (both _ _ (lt-ltb _ _ top.0) (le-leb _ _ (omega (arith, long)))) (le-leb _ _ (omega (arith, long, below)))) words.rules;
       bits_are = top.1 ∙ ap (λ (more : List Bool). int_bits 16384 a.value ++ more)
           (count.1 ∙ ap (λ (n : ℕ). int_bits 8 n ++ b.rest) less ∙ ap (λ (more : List Bool). int_bits 8 (length w.value - 1) ++ more) words.bits_are)
           ∙ sym (three (int_bits 16384 a.value) (int_bits 8 (length w.value - 1)) (words_bits w.value) w.rest);

@@ -1,14 +1,14 @@
 -- Packets and their spellings belong to each other one to one.
 use Rattle.std.proofs.Common.{◌≡◌, ℕ, ◌≤◌, List, [], ◌∷◌, ◌++◌, Bool, true, false, Result, Ok, refl, sym, ap, ◌∙◌, arith, length, replicate, length-append, append_assoc}
 use Rattle.std.specs.List.{flat_map}
+use Rattle.std.proofs.lemmas.Bool.{ltb-true}
 use Rattle.protocol_model.specs.Bits.{bits_of}
 use Rattle.protocol_model.specs.Packet.{Packet, Spells, start_bits, rec_bits, spelling_of}
 use Rattle.protocol_model.specs.PacketReading.{Refusal, content_of, packet_of, content_read}
 use Rattle.protocol_model.specs.declared.Version.{Version}
 use Rattle.protocol_laws.proofs.BytesLaws.{bits_of-bytes_of}
-use Rattle.packet_codec.proofs.PacketBack.{packet_read}
-use Rattle.packet_codec.proofs.ReadBack.{is_below}
-use Rattle.packet_codec.proofs.Content.{content-is, packet_of-content, last_is_some}
+use Rattle.protocol_laws.proofs.PacketBack.{packet_read}
+use Rattle.protocol_laws.proofs.Content.{content-is, packet_of-content, last_is_some}
 
 no_bytes : (bytes : List ℕ) → length bytes ≡ 0 → bytes ≡ []
 no_bytes [] h = refl
@@ -29,7 +29,7 @@ packet_back version p bytes spells =
     let some : 1 ≤ length bytes = some_bytes bytes content pad bits in
     let end : content_of bytes ≡ content = content-is bytes content pad bits in
     packet_of-content version bytes some spells.size (last_is_some bytes content pad held.1 some bits)
-    ∙ rw (end, content_read, packet_read version p (is_below _ _ spells.number) spells.head spells.recs) refl
+    ∙ rw (end, content_read, packet_read version p (ltb-true _ _ spells.number) spells.head spells.recs) refl
 
 -- bytes spell at most one packet
 pub one_packet : (version : Version) (p q : Packet) (bytes : List ℕ) → Spells version p bytes → Spells version q bytes → p ≡ q

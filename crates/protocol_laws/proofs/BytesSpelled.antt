@@ -1,11 +1,11 @@
 -- Only bytes that spell a packet are read as that packet.
-use Rattle.std.proofs.Common.{◌≡◌, ℕ, zero, suc, ◌<◌, ◌≤◌, ◌+◌, ◌-◌, ◌*◌, ◌/◌, ◌^◌, ◌==◌, List, [], ◌∷◌, ◌++◌, Bool, true, false, cond, nat_lt, Result, Ok, Err, refl, sym, ap, ◌∙◌, arith, length, length-append, length-take, append_assoc, take, drop, replicate}
+use Rattle.std.proofs.Common.{◌≡◌, ℕ, zero, suc, ◌<◌, ◌≤◌, ◌+◌, ◌-◌, ◌*◌, ◌/◌, ◌==◌, List, [], ◌∷◌, ◌++◌, Bool, true, false, cond, nat_lt, Result, Ok, Err, refl, sym, ap, ◌∙◌, arith, length, length-append, append_assoc, take, drop, replicate}
 use Rattle.std.specs.Prelude.{All, slice_index_or}
 use Rattle.std.specs.List.{flat_map}
 use Rattle.std.proofs.lemmas.Bool.Decides.{nat_tests}
 use Rattle.std.proofs.lemmas.List.{length-replicate}
 use Rattle.std.proofs.lemmas.List.Elements.{All-cons, All-nil}
-use Rattle.std.proofs.Math.Nat.{pow-le-pow_right}
+use Rattle.std.proofs.lemmas.Bool.{eqb-false, lt-ltb, ltb-false}
 use Rattle.protocol_model.specs.Bits.{bits_of, bytes_of, bytes_in, number_of}
 use Rattle.protocol_model.specs.Reading.{Fault, place_of}
 use Rattle.protocol_model.specs.Packet.{Packet, Spells, start_bits, rec_bits}
@@ -13,16 +13,10 @@ use Rattle.protocol_model.specs.PacketReading.{Refusal, packet_at, packet_of, co
 use Rattle.protocol_model.specs.declared.Version.{Version}
 use Rattle.protocol_model.specs.declared.Why.{Why}
 use Rattle.protocol_model.specs.declared.Why.TheVariants.{Empty, TooLong, NoEnd}
-use Rattle.protocol_laws.proofs.BytesLaws.{bits_of-bytes_of, bytes_of-bits_of}
+use Rattle.protocol_laws.proofs.BytesLaws.{byte_of, bits_of-bytes_of, bytes_of-bits_of}
 use Rattle.protocol_laws.proofs.Lengths.{length-bits_of}
-use Rattle.protocol_laws.proofs.Reading.{number_of_below}
-use Rattle.packet_codec.proofs.Content.{content-is, ended}
-use Rattle.packet_codec.proofs.PacketSpelled.{content_spelled}
-
-byte_of : (bits : List Bool) → number_of (take 8 bits) < 256
-byte_of bits =
-    let up : 2 ^ length (take 8 bits) ≤ 2 ^ 8 = pow-le-pow_right {n = 2} (omega arith) {i = length (take 8 bits)} {j = 8} (omega (arith, length-take 8 bits)) in
-    omega (arith, up, number_of_below (take 8 bits))
+use Rattle.protocol_laws.proofs.Content.{content-is, ended}
+use Rattle.protocol_laws.proofs.PacketSpelled.{content_spelled}
 
 -- what is made of bits are bytes
 made_bytes : (n : ℕ) (bits : List Bool) → All (λ byte. byte < 256) (bytes_in n bits)
@@ -61,34 +55,25 @@ read_where version content p (Ok got) e h =
     let same : got.0 ≡ p = cc in
     (got.1, e ∙ ap (λ (p : Packet). Ok (p, got.1)) same)
 
-not_zero : (n : ℕ) → (n == 0) ≡ false → n ≡ 0 → ⊥
-not_zero n h = grind (arith, nat_tests)
-
 at_least : (n : ℕ) → (n == 0) ≡ false → 1 ≤ n
 at_least n h = grind (arith, nat_tests)
-
-at_most : (n : ℕ) → nat_lt 1024 n ≡ false → n ≤ 1024
-at_most n h = grind (arith, nat_tests)
 
 -- only bytes that spell a packet are read as it
 pub packet_spelled : (version : Version) (p : Packet) (bytes : List ℕ) → All (λ byte. byte < 256) bytes → packet_of version bytes ≡ Ok p → Spells version p bytes
 packet_spelled version p bytes fit h =
     let tests = passed (length bytes == 0) (nat_lt 1024 (length bytes)) (slice_index_or bytes (length bytes - 1) 0 == 0) (0, Empty) (8192, TooLong) (8 * (length bytes - 1), NoEnd) (content_read version (content_of bytes)) p h in
     let some : 1 ≤ length bytes = at_least _ tests.some in
-    let last = ended bytes some (fit (length bytes - 1) 0 (omega (arith, some))) (not_zero _ tests.end) in
+    let last = ended bytes some (fit (length bytes - 1) 0 (omega (arith, some))) (eqb-false _ 0 tests.end) in
     let content : content_of bytes ≡ last.front = content-is bytes last.front last.pad last.bits_are in
     let read = read_where version (content_of bytes) p (packet_at version (content_of bytes)) refl tests.read in
     let spelled = content_spelled version (content_of bytes) p read.0 read.1 in
     let regroup : bits_of bytes ≡ (last.front ++ true ∷ []) ++ replicate last.pad false = last.bits_are ∙ sym (append_assoc last.front (true ∷ []) (replicate last.pad false)) in
     let bits : last.front ≡ start_bits version p.number p.head ++ flat_map (λ rec. rec_bits version rec) p.recs = sym content ∙ spelled.bits_are in
-    let is_low : nat_lt p.number 16384 ≡ true = lower p.number spelled.number in
+    let is_low : nat_lt p.number 16384 ≡ true = lt-ltb p.number 16384 spelled.number in
     record {
       number = is_low;
       head = spelled.head;
       recs = spelled.recs;
       spelling = made_of bytes (last.front ++ true ∷ []) last.pad fit last.short regroup ∙ ap (λ (content : List Bool). bytes_of (content ++ true ∷ [])) bits;
-      size = at_most _ tests.few;
+      size = ltb-false 1024 _ tests.few;
     }
-  where
-    lower : (n : ℕ) → n < 16384 → nat_lt n 16384 ≡ true
-    lower n h = grind (arith, nat_tests)

@@ -1,7 +1,8 @@
 -- A bunch is read as it was spelled, field by field.
-use Rattle.std.proofs.Common.{◌≡◌, ℕ, ◌<◌, ◌≤◌, ◌^◌, ◌==◌, List, [], ◌∷◌, ◌++◌, Bool, true, false, not, ◌&&◌, ◌||◌, cond, nat_lt, Some, Ok, refl, ap, ◌∙◌, arith, length, length-append, append_assoc}
+use Rattle.std.proofs.Common.{◌≡◌, ℕ, ◌<◌, ◌^◌, ◌==◌, List, [], ◌∷◌, ◌++◌, Bool, true, false, not, ◌&&◌, ◌||◌, cond, nat_lt, Some, Ok, refl, ap, ◌∙◌, arith, length, length-append, append_assoc}
 use Rattle.std.proofs.lemmas.Bool.Decides.{nat_tests}
 use Rattle.std.proofs.lemmas.List.{take_at, drop_at}
+use Rattle.std.proofs.lemmas.Bool.{ltb-true, lt-ltb, le-ltb}
 use Rattle.protocol_model.specs.Bits.{int_bits}
 use Rattle.protocol_model.specs.Numbers.{leading_bits}
 use Rattle.protocol_model.specs.Reading.{Reading, ◌>>=◌, give, bits_at, int_at}
@@ -13,11 +14,10 @@ use Rattle.protocol_model.specs.declared.Part.{Part}
 use Rattle.protocol_model.specs.declared.Part.TheVariants.{Whole, First, Middle, Last, Lone}
 use Rattle.protocol_model.specs.declared.Why.{Why}
 use Rattle.protocol_model.specs.declared.Why.TheVariants.{Padded}
-use Rattle.packet_codec.specs.Fields.{on_channel_at, numbered_at, kind_at, exports_at, reserved_at, partial_at}
-use Rattle.packet_codec.specs.Parts.{control_bits, standing_bits, numbered_bits}
-use Rattle.packet_codec.specs.declared.entries.Opening.{Opening}
-use Rattle.packet_codec.specs.declared.entries.Standing.{Standing}
-use Rattle.packet_codec.proofs.Numbers.{or_short_some, int_read, packed_read}
+use Rattle.protocol_laws.specs.Fields.{Opening, Standing, on_channel_at, numbered_at, kind_at, exports_at, reserved_at, partial_at}
+use Rattle.protocol_laws.specs.Parts.{control_bits, standing_bits, numbered_bits}
+use Rattle.protocol_laws.proofs.Booleans.{left_of, right_of}
+use Rattle.protocol_laws.proofs.FieldsBack.{or_short_some, int_read, packed_read}
 
 -- the flags before the channel are read
 pub control_read : (version : Version) (o c s r : Bool) (rest : List Bool) → not (o && c) ≡ true → implies s c ≡ true → implies (o || c) r ≡ true → bunch_at version (control_bits o c s r ++ rest) ≡ on_channel_at version (record { opens = o; closes = c; sleeps = s; reliable = r }) rest
@@ -30,13 +30,10 @@ control_read version false true s false rest p q h = cc
 control_read version false false true r rest p q h = cc
 control_read version false false false r rest p q h = refl
 
-below : (a b : ℕ) → a < b → nat_lt a b ≡ true
-below a b h = grind (arith, nat_tests)
-
 -- the channel is read
 pub channel_read : (version : Version) (channel : ℕ) (rest : List Bool) → channel < channel_limit version → channel_at version (channel_bits version channel ++ rest) ≡ Ok (channel, rest)
 channel_read One channel rest h = int_read 10240 channel rest h (omega arith)
-channel_read Two channel rest h = rw (packed_read Padded channel rest (omega arith), ◌>>=◌, below channel (2 ^ 15) h) refl
+channel_read Two channel rest h = rw (packed_read Padded channel rest (omega arith), ◌>>=◌, lt-ltb channel (2 ^ 15) h) refl
 
 -- a bunch from its flag of exports on
 abbrev pub after_channel : Opening → ℕ → Reading Why Bunch
@@ -73,12 +70,9 @@ kind_read false kind rest h = let e : kind ≡ 0 = grind (arith, nat_tests) in r
 -- a payload is lent as it stands
 pub bits_read : (bits rest : List Bool) → bits_at {Why = Why} (length bits) (bits ++ rest) ≡ Ok (bits, rest)
 bits_read bits rest =
-    let long : nat_lt (length (bits ++ rest)) (length bits) ≡ false = not_below _ _ (omega (arith, length-append bits rest)) in
+    let long : nat_lt (length (bits ++ rest)) (length bits) ≡ false = le-ltb _ _ (omega (arith, length-append bits rest)) in
     let lent : leading_bits (length bits) (bits ++ rest) ≡ Some (bits, rest) = rw (long, take_at bits rest (length bits) refl, drop_at bits rest (length bits) refl) refl in
     or_short_some (leading_bits (length bits)) (bits ++ rest) (bits, rest) lent
-  where
-    not_below : (m n : ℕ) → n ≤ m → nat_lt m n ≡ false
-    not_below m n h = grind (arith, nat_tests)
 
 -- a bunch from its kind on
 abbrev pub from_kind : Opening → Standing → ℕ → Part → Reading Why Bunch
@@ -165,14 +159,6 @@ pub record Rules (version : Version) (b : Bunch) : Type 0 where
   pub kind : cond b.reliable (b.kind == 1 || b.kind == 2) (b.kind == 0) ≡ true
   pub size : length b.payload < 8192
 
-pub left_of : (x y : Bool) → (x && y) ≡ true → x ≡ true
-left_of true y h = refl
-left_of false y h = cc
-
-pub right_of : (x y : Bool) → (x && y) ≡ true → y ≡ true
-right_of true y h = h
-right_of false y h = cc
-
 first_of_two : (r a b c d : Bool) → cond r (a && b) (c && d) ≡ true → cond r a c ≡ true
 first_of_two true a b c d h = left_of a b h
 first_of_two false a b c d h = left_of c d h
@@ -180,9 +166,6 @@ first_of_two false a b c d h = left_of c d h
 second_of_two : (r a b c d : Bool) → cond r (a && b) (c && d) ≡ true → cond r b d ≡ true
 second_of_two true a b c d h = right_of a b h
 second_of_two false a b c d h = right_of c d h
-
-pub is_below : (a b : ℕ) → nat_lt a b ≡ true → a < b
-is_below a b h = grind (arith, nat_tests)
 
 pub rules_of : (version : Version) (b : Bunch) → is_bunch version b ≡ true → Rules version b
 rules_of version b h =
@@ -205,12 +188,12 @@ rules_of version b h =
       control = left_of a d to_d;
       dormant = right_of a d to_d;
       reliable = right_of (a && d) r to_r;
-      channel = is_below _ _ (right_of (a && d && r) c to_c);
+      channel = ltb-true _ _ (right_of (a && d && r) c to_c);
       exports = right_of (a && d && r && c) e to_e;
       partial = right_of (a && d && r && c && e) p to_p;
       seq = first_of_two b.reliable (nat_lt b.seq 1024) (b.kind == 1 || b.kind == 2) (b.seq == 0) (b.kind == 0) here;
       kind = second_of_two b.reliable (nat_lt b.seq 1024) (b.kind == 1 || b.kind == 2) (b.seq == 0) (b.kind == 0) here;
-      size = is_below _ _ (right_of (a && d && r && c && e && p && n) z h);
+      size = ltb-true _ _ (right_of (a && d && r && c && e && p && n) z h);
     }
 
 -- a bunch is read as it was spelled, whatever follows

@@ -1,18 +1,18 @@
 -- Where a packet's content ends.
-use Rattle.std.proofs.Common.{◌≡◌, ℕ, zero, suc, ◌<◌, ◌≤◌, ◌+◌, ◌-◌, ◌*◌, ◌^◌, ◌==◌, List, [], ◌∷◌, ◌++◌, Bool, true, false, nat_lt, Some, refl, sym, ap, ◌∙◌, arith, length, reverse, replicate, take, drop, length-append, append_assoc, drop-cons, get_or, append-nil, length-take, ◌/◌}
+use Rattle.std.proofs.Common.{◌≡◌, ℕ, zero, suc, ◌<◌, ◌≤◌, ◌+◌, ◌-◌, ◌*◌, ◌^◌, ◌==◌, List, [], ◌∷◌, ◌++◌, Bool, true, false, refl, sym, ap, ◌∙◌, arith, length, reverse, replicate, take, drop, length-append, append_assoc, drop-cons, get_or, append-nil, length-take, ◌/◌}
 use Rattle.std.proofs.Math.Seq.{drop-length}
-use Rattle.std.specs.Prelude.{slice_index_or, slice_get}
-use Rattle.std.proofs.lemmas.Option.{get_or_from_slice_get}
+use Rattle.std.specs.Prelude.{slice_index_or}
 use Rattle.std.proofs.lemmas.Bool.Decides.{nat_tests}
 use Rattle.std.proofs.lemmas.List.{reverse-append, reverse-reverse, take-append-drop, take_at}
 use Rattle.std.proofs.Math.Nat.{pow-suc}
 use Rattle.std.proofs.lemmas.Nat.{leading_top, div-mul-add}
 use Rattle.std.specs.Int.Count.{count_leading_zeros}
-use Rattle.packet_codec.specs.Refused.{EndsAt}
 use Rattle.std.proofs.lemmas.Grind.{reverse_onto, replicate_next, flat_map-append}
+use Rattle.std.proofs.lemmas.Bool.{le-ltb}
 use Rattle.protocol_model.specs.Bits.{bits_of, digits}
 use Rattle.protocol_model.specs.PacketReading.{after_first_one, content_of, packet_of, content_read}
 use Rattle.protocol_model.specs.declared.Version.{Version}
+use Rattle.protocol_laws.proofs.Bounds.{not_zero}
 use Rattle.protocol_laws.proofs.Digits.{length-digits, digits-split, digits-zero}
 use Rattle.protocol_laws.proofs.Lengths.{length-bits_of}
 
@@ -85,13 +85,7 @@ last_is_some bytes bits pad l h e = some_where (slice_index_or bytes (length byt
 
 -- bytes of a fitting length with an end bit are what their content says
 pub packet_of-content : (version : Version) (bytes : List ℕ) → 1 ≤ length bytes → length bytes ≤ 1024 → (slice_index_or bytes (length bytes - 1) 0 == 0) ≡ false → packet_of version bytes ≡ content_read version (content_of bytes)
-packet_of-content version bytes h k l = rw (no_zero (length bytes) h, no_more (length bytes) k, l) refl
-  where
-    no_zero : (n : ℕ) → 1 ≤ n → (n == 0) ≡ false
-    no_zero n h = grind (arith, nat_tests)
-
-    no_more : (n : ℕ) → n ≤ 1024 → nat_lt 1024 n ≡ false
-    no_more n h = grind (arith, nat_tests)
+packet_of-content version bytes h k l = rw (not_zero (length bytes) h, le-ltb 1024 (length bytes) k, l) refl
 
 top_digit : (n p : ℕ) → p ≤ n → n < p * 2 → n / p ≡ 1
 top_digit n p h k = let e : n ≡ 1 * p + (n - p) = omega (arith, h) in ap (λ (m : ℕ). m / p) e ∙ div-mul-add 1 p (n - p) (omega (arith, h, k))
@@ -115,27 +109,6 @@ content_at bytes j z some whole low high =
     last_bits bytes some ∙ ap (λ (k : ℕ). front ++ digits k last) eight ∙ ap (λ (more : List Bool). front ++ more) (byte_end j z last low high) ∙ sym (append_assoc front (digits j last) (true ∷ replicate z false)) in
     let before : length (front ++ digits j last) ≡ 8 * length bytes - 1 - z = omega (arith, length-append front (digits j last), length-digits j last, length-bits_of (take (length bytes - 1) bytes), length-take (length bytes - 1) bytes, whole, some) in
     content-is bytes (front ++ digits j last) z bits ∙ sym (ap (λ (all : List Bool). take (8 * length bytes - 1 - z) all) bits ∙ take_at (front ++ digits j last) (true ∷ replicate z false) (8 * length bytes - 1 - z) before)
-
-not_zero : (n : ℕ) → (n ≡ 0 → ⊥) → (n == 0) ≡ false
-not_zero n h = grind (arith, nat_tests)
-
-ends_behind : (bytes : List ℕ) (last j z : ℕ) → 1 ≤ length bytes → length bytes ≤ 1024 → slice_index_or bytes (length bytes - 1) 0 ≡ last → (last == 0) ≡ false → z + suc j ≡ 8 → 2 ^ j ≤ last → last < 2 ^ suc j → EndsAt bytes (8 * length bytes - 1 - z)
-ends_behind bytes last j z least most is some whole low high = record {
-  content = content_at bytes j z least whole (rw is low) (rw is high);
-  decides = λ version. packet_of-content version bytes least most (rw is some);
-  within = omega arith;
-  small = most;
-}
-
--- what the last byte says of the content's end
-pub content_ends : (bytes : List ℕ) (last : ℕ) → Some last ≡ slice_get bytes (length bytes - 1) → (last ≡ 0 → ⊥) → last < 256 → length bytes ≤ 1024 → EndsAt bytes (8 * length bytes - 1 - count_leading_zeros 8 last)
-content_ends [] last e some fits most = cc
-content_ends (byte ∷ bytes) last e some fits most =
-    let all : List ℕ = byte ∷ bytes in
-    let least : 1 ≤ length all = omega arith in
-    let is : slice_index_or all (length all - 1) 0 ≡ last = get_or_from_slice_get all (length all - 1) last 0 (sym e) in
-    let top = leading_top 8 last (omega (arith, some)) fits in
-    ends_behind all last top.0 (count_leading_zeros 8 last) least most is (not_zero last some) top.1 top.2 top.3
 
 -- bits that end in a 1 bit and fewer than eight 0 bits
 pub record Ended (bits : List Bool) : Type 0 where

@@ -1,6 +1,6 @@
 -- Only a bunch that was spelled is read.
 use Rattle.std.proofs.Common.{◌≡◌, ℕ, ◌<◌, ◌==◌, List, [], ◌∷◌, ◌++◌, Bool, true, false, not, ◌&&◌, ◌||◌, cond, nat_lt, Ok, refl, sym, ap, ◌∙◌, subst, arith, length}
-use Rattle.std.proofs.lemmas.Bool.Decides.{nat_tests}
+use Rattle.std.proofs.lemmas.Bool.{lt-ltb}
 use Rattle.protocol_model.specs.Bits.{int_bits}
 use Rattle.protocol_model.specs.Reading.{Reading, ◌>>=◌, give, bit_at, bits_at, int_at}
 use Rattle.protocol_model.specs.Packet.{Bunch, implies, is_partial, is_initial, is_final, flag, field_if, channel_bits, bunch_bits, is_bunch}
@@ -9,12 +9,11 @@ use Rattle.protocol_model.specs.declared.Version.{Version}
 use Rattle.protocol_model.specs.declared.Part.{Part}
 use Rattle.protocol_model.specs.declared.Part.TheVariants.{Whole, First, Middle, Last, Lone}
 use Rattle.protocol_model.specs.declared.Why.{Why}
-use Rattle.packet_codec.specs.Fields.{on_channel_at, numbered_at, kind_at}
-use Rattle.packet_codec.specs.Parts.{control_bits, standing_bits, numbered_bits}
-use Rattle.packet_codec.specs.declared.entries.Opening.{Opening}
-use Rattle.packet_codec.specs.declared.entries.Standing.{Standing as StandingValue}
-use Rattle.packet_codec.proofs.ReadBack.{Rules, after_channel, from_kind, bunch_bits-then, regroup}
-use Rattle.packet_codec.proofs.FieldsSpelled.{Reads, then_of, ok_same, channel_spelled, seq_spelled, kind_spelled, int_spelled, bits_spelled}
+use Rattle.protocol_laws.specs.Fields.{Opening, Standing as StandingValue, on_channel_at, numbered_at, kind_at}
+use Rattle.protocol_laws.specs.Parts.{control_bits, standing_bits, numbered_bits}
+use Rattle.protocol_laws.proofs.Booleans.{both}
+use Rattle.protocol_laws.proofs.BunchBack.{Rules, after_channel, from_kind, bunch_bits-then, regroup}
+use Rattle.protocol_laws.proofs.FieldsSpelled.{Reads, then_of, ok_same, channel_spelled, seq_spelled, kind_spelled, int_spelled, bits_spelled}
 
 -- the flags before the channel were spelled
 record Controlled (version : Version) (bits : List Bool) (r : Bunch × List Bool) : Type 0 where
@@ -191,22 +190,15 @@ numbered_spelled opening channel exports partial bits got h =
       is = k.is;
     }
 
-pub both : (x y : Bool) → x ≡ true → y ≡ true → (x && y) ≡ true
-both true y h k = k
-both false y h k = absurd (cc)
-
 both_where : (r a b c d : Bool) → cond r a c ≡ true → cond r b d ≡ true → cond r (a && b) (c && d) ≡ true
 both_where true a b c d h k = both a b h k
 both_where false a b c d h k = both c d h k
 
-pub is_lower : (a b : ℕ) → a < b → nat_lt a b ≡ true
-is_lower a b h = grind (arith, nat_tests)
-
 -- the rules together
 ruled : (version : Version) (b : Bunch) → Rules version b → is_bunch version b ≡ true
 ruled version b rules =
-    both _ _ (both _ _ (both _ _ (both _ _ (both _ _ (both _ _ (both _ _ rules.control rules.dormant) rules.reliable) (is_lower _ _ rules.channel)) rules.exports) rules.partial)
-    (both_where b.reliable (nat_lt b.seq 1024) (b.kind == 1 || b.kind == 2) (b.seq == 0) (b.kind == 0) rules.seq rules.kind)) (is_lower _ _ rules.size)
+    both _ _ (both _ _ (both _ _ (both _ _ (both _ _ (both _ _ (both _ _ rules.control rules.dormant) rules.reliable) (lt-ltb _ _ rules.channel)) rules.exports) rules.partial)
+    (both_where b.reliable (nat_lt b.seq 1024) (b.kind == 1 || b.kind == 2) (b.seq == 0) (b.kind == 0) rules.seq rules.kind)) (lt-ltb _ _ rules.size)
 
 -- the bits begin with the spelling of the bunch that is read
 pub record IsSpelled (version : Version) (bits : List Bool) (got : Bunch × List Bool) : Type 0 where

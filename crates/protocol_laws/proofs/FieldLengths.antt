@@ -3,6 +3,7 @@ use Rattle.std.proofs.Common.{◌≡◌, ℕ, suc, ◌<◌, ◌≤◌, ◌+◌, 
 use Rattle.std.proofs.lemmas.Bool.Decides.{nat_tests}
 use Rattle.std.proofs.lemmas.Nat.{mod_below, pow_pos}
 use Rattle.std.proofs.Math.Nat.{pow-suc, pow-le-pow_right}
+use Rattle.std.proofs.lemmas.Bool.{le-ltb, lt-ltb, ltb-true}
 use Rattle.protocol_model.specs.Bits.{digits, int_width, int_bits, packed_bits, packed_in, fixed_bits}
 use Rattle.protocol_model.specs.Packet.{Bunch, Sends, is_partial, bunch_bits, rec_bits, channel_bits}
 use Rattle.protocol_model.specs.declared.Version.{Version}
@@ -12,8 +13,8 @@ use Rattle.protocol_model.specs.declared.Part.TheVariants.{Whole, First, Middle,
 use Rattle.protocol_laws.specs.IntWidth.{IsIntWidth}
 use Rattle.protocol_laws.proofs.Widths.{int_width-is}
 use Rattle.protocol_laws.proofs.Digits.{length-digits}
-use Rattle.packet_codec.specs.Parts.{control_bits, standing_bits, numbered_bits, words_bits}
-use Rattle.packet_codec.proofs.ReadBack.{bunch_bits-parts}
+use Rattle.protocol_laws.specs.Parts.{control_bits, standing_bits, numbered_bits, words_bits}
+use Rattle.protocol_laws.proofs.BunchBack.{bunch_bits-parts}
 
 -- fewer bits than k reach at most 2 ^ k
 reaches : (v i k : ℕ) → i < k → v % 2 ^ i + 2 ^ i < 2 ^ k + 0
@@ -36,9 +37,6 @@ channel_13 v h =
     let is : IsIntWidth 10240 v 13 = record { enough = omega (arith, h); least = λ i l. let r = reaches v i 13 l in omega (arith, r) } in
     length-digits (int_width 10240 v) v ∙ int_width-is 10240 v 13 (omega arith) is
 
-below_true : (a b : ℕ) → nat_lt a b ≡ true → a < b
-below_true a b h = grind (arith, nat_tests)
-
 is_last : (i : ℕ) → i < 14 → nat_lt i 13 ≡ false → i ≡ 13
 is_last i h t = grind (arith, nat_tests)
 
@@ -46,7 +44,7 @@ least_14 : (v i : ℕ) → v % 8192 < 2048 → i < 14 → v % 2 ^ i + 2 ^ i < 10
 least_14 v i h l = by_last (nat_lt i 13) refl
   where
     by_last : (b : Bool) → nat_lt i 13 ≡ b → v % 2 ^ i + 2 ^ i < 10240
-    by_last true t = let r = reaches v i 13 (below_true i 13 t) in omega (arith, r)
+    by_last true t = let r = reaches v i 13 (ltb-true i 13 t) in omega (arith, r)
     by_last false t = let e : i ≡ 13 = is_last i l t in rw e (omega (arith, h))
 
 pub channel_14 : (v : ℕ) → v % 8192 < 2048 → length (int_bits 10240 v) ≡ 14
@@ -54,22 +52,16 @@ channel_14 v h =
     let is : IsIntWidth 10240 v 14 = record { enough = omega arith; least = λ i l. least_14 v i h l } in
     length-digits (int_width 10240 v) v ∙ int_width-is 10240 v 14 (omega arith) is
 
-lt_true : (a b : ℕ) → a < b → nat_lt a b ≡ true
-lt_true a b h = grind (arith, nat_tests)
-
-lt_false : (a b : ℕ) → b ≤ a → nat_lt a b ≡ false
-lt_false a b h = grind (arith, nat_tests)
-
 -- a packed number has 8 bits a group
 pub packed_8 : (v : ℕ) → v < 128 → length (packed_bits v) ≡ 8
 unfolding packed_in
-packed_8 v h = rw (lt_true v 128 h) (ap suc (length-digits 7 v))
+packed_8 v h = rw (lt-ltb v 128 h) (ap suc (length-digits 7 v))
 
 pub packed_16 : (v : ℕ) → 128 ≤ v → v < 16384 → length (packed_bits v) ≡ 16
 unfolding packed_in
 packed_16 v h k =
     let rest : v / 128 < 128 = omega arith in
-    rw (lt_false v 128 h, lt_true (v / 128) 128 rest) (omega (arith, length-append (digits 7 v) (false ∷ digits 7 (v / 128)), length-digits 7 v, length-digits 7 (v / 128)))
+    rw (le-ltb v 128 h, lt-ltb (v / 128) 128 rest) (omega (arith, length-append (digits 7 v) (false ∷ digits 7 (v / 128)), length-digits 7 v, length-digits 7 (v / 128)))
 
 pub packed_24 : (v : ℕ) → 16384 ≤ v → v < 2 ^ 15 → length (packed_bits v) ≡ 24
 unfolding packed_in
@@ -77,7 +69,7 @@ packed_24 v h k =
     let more : 128 ≤ v / 128 = omega arith in
     let rest : v / 128 / 128 < 128 = omega arith in
     let last : List Bool = false ∷ digits 7 (v / 128 / 128) in
-    rw (lt_false v 128 (omega (arith, h)), lt_false (v / 128) 128 more, lt_true (v / 128 / 128) 128 rest)
+    rw (le-ltb v 128 (omega (arith, h)), le-ltb (v / 128) 128 more, lt-ltb (v / 128 / 128) 128 rest)
     (omega (arith, length-append (digits 7 v) (true ∷ (digits 7 (v / 128) ++ last)), length-append (digits 7 (v / 128)) last, length-digits 7 v, length-digits 7 (v / 128), length-digits 7 (v / 128 / 128)))
 
 -- the flags before the channel

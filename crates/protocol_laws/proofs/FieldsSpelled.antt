@@ -2,6 +2,7 @@
 use Rattle.std.proofs.Common.{◌≡◌, ℕ, ◌<◌, ◌≤◌, ◌^◌, ◌==◌, List, ◌++◌, Bool, true, false, ◌||◌, cond, nat_lt, Option, Some, None, Result, Ok, Err, refl, sym, ap, ◌∙◌, arith, length, take, drop}
 use Rattle.std.proofs.lemmas.Bool.Decides.{nat_tests}
 use Rattle.std.proofs.lemmas.List.{take-append-drop, length-take-le}
+use Rattle.std.proofs.lemmas.Bool.{ltb-true}
 use Rattle.protocol_model.specs.Bits.{int_bits, fixed_bits}
 use Rattle.protocol_model.specs.Numbers.{leading_bits, leading_fixed, leading_int, leading_packed}
 use Rattle.protocol_model.specs.Reading.{Fault, Broken, Reading, ◌>>=◌, or_short, give, must, bits_at, int_at, fixed_at, packed_at, fault}
@@ -15,7 +16,7 @@ use Rattle.protocol_model.specs.declared.Why.TheVariants.{Padded, Wide, BadKind}
 use Rattle.protocol_laws.proofs.IntLaws.{int-spelled}
 use Rattle.protocol_laws.proofs.PackedLaws.{packed-spelled}
 use Rattle.protocol_laws.proofs.Reading.{leading_fixed-spelled}
-use Rattle.packet_codec.specs.Fields.{kind_at}
+use Rattle.protocol_laws.specs.Fields.{kind_at}
 
 -- what a reading answers where it goes well
 abbrev pub Reads : Type 0 → Type 0
@@ -90,16 +91,13 @@ must_of read rule why bits value rest h =
     let same = ok_parts next.value value next.rest rest kept.1 in
     (rw (← same.0) kept.0, next.first ∙ kept.1)
 
-is_below : (a b : ℕ) → nat_lt a b ≡ true → a < b
-is_below a b h = grind (arith, nat_tests)
-
 -- the channel
 pub channel_spelled : (version : Version) (channel : ℕ) (bits rest : List Bool) → channel_at version bits ≡ Ok (channel, rest) → (channel < channel_limit version) × (bits ≡ channel_bits version channel ++ rest)
 channel_spelled One channel bits rest h = int_spelled 10240 channel bits rest (omega arith) (omega arith) h
 channel_spelled Two channel bits rest h =
     let kept = must_of (packed_at Padded) (λ c. nat_lt c (2 ^ 15)) Wide bits channel rest h in
     let spelled = packed-spelled channel bits rest (packed_where channel bits rest (leading_packed bits) refl kept.1) in
-    (is_below channel (2 ^ 15) kept.0, spelled.1)
+    (ltb-true channel (2 ^ 15) kept.0, spelled.1)
 
 -- the sequence number
 pub seq_spelled : (r : Bool) (seq : ℕ) (bits rest : List Bool) → read_if r (int_at 1024) 0 bits ≡ Ok (seq, rest) → (cond r (nat_lt seq 1024) (seq == 0) ≡ true) × (bits ≡ field_if r (int_bits 1024 seq) ++ rest)
