@@ -19,10 +19,10 @@ use Rattle.connection_model.specs.Fates.{taken_of, top_of, moved_of, high_of, la
 use Rattle.bit_io.specs.declared.head.Head.{Head as HeadValue}
 use Rattle.bit_io.specs.HeadOf.{head_of as head_told, IsHead}
 use Rattle.ack_book.specs.Answers.{names_unsent}
-use Rattle.ack_book.specs.Book.{Book}
+use Rattle.ack_book.specs.Book.{Book, fates_kept}
 use Rattle.ack_book.specs.History.{bit_in}
 use Rattle.ack_book.specs.Keeps.{Keeps}
-use Rattle.ack_book.specs.declared.TheConstants.{KEPT, UNRESOLVED_MAX}
+use Rattle.protocol_model.specs.Limits.{unresolved_limit}
 use Rattle.protocol_laws.proofs.Greatest.{greatest_of-append, among_above}
 use Rattle.ack_book.proofs.Words.{bit_in_word}
 use Rattle.ack_book.proofs.Histories.{spelled_by, bit_of_words, bit_taken_first}
@@ -103,9 +103,9 @@ either_side high k r x m b old low above named marked kept = grind (arith, nat_t
 pub told_keeps : (book : Book) (v : Version) (past : Past) (m : ℕ) (entries : List Entry) (handed : List Delivered) (head : Head) (i to base : ℕ) (ring : List Bool)
     → Keeps book v (Took m entries handed ∷ past) → First (history_of head) i → book.high < to → to ≤ book.last_sent
     → near head.top (pos book.high) 16384 ≡ pos (to + i)
-    → base ≡ slice_index_or book.told (to % UNRESOLVED_MAX) 0
-    → ((n : ℕ) → book.high < n → n ≤ to → to < n + KEPT → slice_index_or ring (n % KEPT) false ≡ slice_index_or (history_of head) (i + (to - n)) false)
-    → ((n : ℕ) → n ≤ book.high → to < n + KEPT → slice_index_or ring (n % KEPT) false ≡ slice_index_or book.arrived (n % KEPT) false)
+    → base ≡ slice_index_or book.told (to % unresolved_limit) 0
+    → ((n : ℕ) → book.high < n → n ≤ to → to < n + fates_kept → slice_index_or ring (n % fates_kept) false ≡ slice_index_or (history_of head) (i + (to - n)) false)
+    → ((n : ℕ) → n ≤ book.high → to < n + fates_kept → slice_index_or ring (n % fates_kept) false ≡ slice_index_or book.arrived (n % fates_kept) false)
     → Keeps (record book { high = to; base = base; arrived = ring }) v (Took m (Told head ∷ entries) handed ∷ past)
 told_keeps book v past m entries handed head i to base ring h first above within top is marked kept =
     let before : Past = Took m entries handed ∷ past in
@@ -125,7 +125,7 @@ told_keeps book v past m entries handed head i to base ring h first above within
     let reached : to ≡ high_of later = omega (arith, greatest_of-append new moved, greatest, over) ∙ ap greatest_of (sym all) in
     moved_keeps book v past m (Told head) entries handed to base ring h above within reached is
     (λ k low close.
-    either_side high k (slice_index_or ring (k % KEPT) false) (is_among k new) (is_among k moved) (slice_index_or bits (i + (to - k)) false) false
+    either_side high k (slice_index_or ring (k % fates_kept) false) (is_among k new) (is_among k moved) (slice_index_or bits (i + (to - k)) false) false
     (λ under. among_low (named_numbers (pos (to + i)) bits) high k under)
     (λ up. among_above k moved up)
     (λ up.

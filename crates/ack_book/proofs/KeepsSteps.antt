@@ -12,10 +12,10 @@ use Rattle.std.specs.List.{filter_map, cons_option}
 use Rattle.std.proofs.lemmas.List.{get_or-replicate}
 use Rattle.std.proofs.lemmas.Nat.{mod_below}
 use Rattle.std.proofs.lemmas.Nat.Bits.{bit_at-zero}
-use Rattle.ack_book.specs.Book.{Book}
+use Rattle.ack_book.specs.Book.{Book, fates_kept}
 use Rattle.ack_book.specs.History.{bit_in}
 use Rattle.ack_book.specs.Keeps.{Keeps}
-use Rattle.ack_book.specs.declared.TheConstants.{KEPT, UNRESOLVED_MAX}
+use Rattle.protocol_model.specs.Limits.{unresolved_limit}
 use Rattle.protocol_laws.proofs.Greatest.{greatest_of-cons, among_above}
 use Rattle.ack_book.proofs.Steps.{if_other, told_at, bit_taken, owed_more, at_place, moves_one, none_above}
 
@@ -27,8 +27,8 @@ owed_like Two past later e = refl
 
 -- a packet is sent
 pub sent_keeps : (book : Book) (v : Version) (past : Past) (told : List ℕ) (t : ℕ) (items : List Item) → Keeps book v past
-    → length book.told ≡ UNRESOLVED_MAX → book.last_sent < book.high + UNRESOLVED_MAX → book.high ≤ book.last_sent
-    → told ≡ slice_set book.told ((book.last_sent + 1) % UNRESOLVED_MAX) book.top
+    → length book.told ≡ unresolved_limit → book.last_sent < book.high + unresolved_limit → book.high ≤ book.last_sent
+    → told ≡ slice_set book.told ((book.last_sent + 1) % unresolved_limit) book.top
     → Keeps (record book { last_sent = book.last_sent + 1; told = told }) v (Sent (book.last_sent + 1) t items ∷ past)
 sent_keeps book v past told t items h len room order is =
     let s : ℕ = book.last_sent + 1 in
@@ -108,8 +108,8 @@ ticked_keeps book v past t sight h =
 pub moved_keeps : (book : Book) (v : Version) (past : Past) (m : ℕ) (entry : Entry) (entries : List Entry) (handed : List Delivered) (to base : ℕ) (ring : List Bool)
     → Keeps book v (Took m entries handed ∷ past) → book.high < to → to ≤ book.last_sent
     → to ≡ high_of (Took m (entry ∷ entries) handed ∷ past)
-    → base ≡ slice_index_or book.told (to % UNRESOLVED_MAX) 0
-    → ((n : ℕ) → n ≤ to → to < n + KEPT → slice_index_or ring (n % KEPT) false ≡ is_among n (moved_of (Took m (entry ∷ entries) handed ∷ past)))
+    → base ≡ slice_index_or book.told (to % unresolved_limit) 0
+    → ((n : ℕ) → n ≤ to → to < n + fates_kept → slice_index_or ring (n % fates_kept) false ≡ is_among n (moved_of (Took m (entry ∷ entries) handed ∷ past)))
     → Keeps (record book { high = to; base = base; arrived = ring }) v (Took m (entry ∷ entries) handed ∷ past)
 moved_keeps book v past m entry entries handed to base ring h above within high is marks =
     let later : Past = Took m (entry ∷ entries) handed ∷ past in
@@ -122,7 +122,7 @@ moved_keeps book v past m entry entries handed to base ring h above within high 
       base = is ∙ h.told to (omega (arith, h.high)) (omega (arith, h.sent)) ∙ ap (top_when past) high;
       owed = h.owed ∙ owed_like v before later refl;
       history = h.history;
-      fates = λ n low near. marks n (subst (λ (k : ℕ). n ≤ k) (sym high) low) (subst (λ (k : ℕ). k < n + KEPT) (sym high) near);
+      fates = λ n low near. marks n (subst (λ (k : ℕ). n ≤ k) (sym high) low) (subst (λ (k : ℕ). k < n + fates_kept) (sym high) near);
       told = λ n over low. let over' : to < n = subst (λ (k : ℕ). k < n) (sym high) over in h.told n (omega (arith, h.high)) low;
     }
 
@@ -143,7 +143,7 @@ still_keeps book v past m entry entries handed h e =
       base = h.base ∙ ap (top_when past) high;
       owed = h.owed ∙ owed_like v before later refl;
       history = h.history;
-      fates = λ n low near. h.fates n (subst (λ (k : ℕ). n ≤ k) (sym high) low) (subst (λ (k : ℕ). k < n + KEPT) (sym high) near) ∙ ap (is_among n) (sym e);
+      fates = λ n low near. h.fates n (subst (λ (k : ℕ). n ≤ k) (sym high) low) (subst (λ (k : ℕ). k < n + fates_kept) (sym high) near) ∙ ap (is_among n) (sym e);
       told = λ n over low. h.told n (subst (λ (k : ℕ). k < n) (sym high) over) low;
     }
 
@@ -151,10 +151,10 @@ still_keeps book v past m entry entries handed h e =
 pub acked_keeps : (book : Book) (v : Version) (past : Past) (m : ℕ) (entries : List Entry) (handed : List Delivered) (n to base : ℕ) (ring : List Bool)
     → Keeps book v (Took m entries handed ∷ past) → book.high < to → to ≤ book.last_sent
     → near n (pos book.high) 16384 ≡ pos to
-    → base ≡ slice_index_or book.told (to % UNRESOLVED_MAX) 0
-    → slice_index_or ring (to % KEPT) false ≡ true
-    → ((k : ℕ) → book.high < k → k < to → to < k + KEPT → slice_index_or ring (k % KEPT) false ≡ false)
-    → ((k : ℕ) → k ≤ book.high → to < k + KEPT → slice_index_or ring (k % KEPT) false ≡ slice_index_or book.arrived (k % KEPT) false)
+    → base ≡ slice_index_or book.told (to % unresolved_limit) 0
+    → slice_index_or ring (to % fates_kept) false ≡ true
+    → ((k : ℕ) → book.high < k → k < to → to < k + fates_kept → slice_index_or ring (k % fates_kept) false ≡ false)
+    → ((k : ℕ) → k ≤ book.high → to < k + fates_kept → slice_index_or ring (k % fates_kept) false ≡ slice_index_or book.arrived (k % fates_kept) false)
     → Keeps (record book { high = to; base = base; arrived = ring }) v (Took m (Acked n ∷ entries) handed ∷ past)
 acked_keeps book v past m entries handed n to base ring h above within acked is arrived lost kept =
     let before : Past = Took m entries handed ∷ past in
@@ -164,7 +164,7 @@ acked_keeps book v past m entries handed n to base ring h above within acked is 
     let high : to ≡ high_of later = omega (arith, greatest_of-cons to (moved_of before), h.high) ∙ ap greatest_of (sym moved) in
     moved_keeps book v past m (Acked n) entries handed to base ring h above within high is
     (λ k low near.
-    at_place (high_of before) to k (slice_index_or ring (k % KEPT) false) (is_among k (moved_of before)) low
+    at_place (high_of before) to k (slice_index_or ring (k % fates_kept) false) (is_among k (moved_of before)) low
     (λ e. rw e arrived)
     (λ p q. lost k (omega (arith, h.high)) q near)
     (λ p. kept k (omega (arith, h.high)) near ∙ h.fates k p (omega (arith, h.high)))
@@ -183,7 +183,7 @@ ignored_keeps book v past m entries handed n h low =
     (ap (λ (o : Option ℕ). cons_option o [] ++ moved_of before) (none_above (high_of before) _ low'))
 
 -- nothing was done yet
-pub new_keeps : (v : Version) (owed : List ℕ) (arrived : List Bool) (told : List ℕ) → owed ≡ [] → arrived ≡ replicate KEPT false
+pub new_keeps : (v : Version) (owed : List ℕ) (arrived : List Bool) (told : List ℕ) → owed ≡ [] → arrived ≡ replicate fates_kept false
     → Keeps (record { version = v; last_sent = 0; high = 0; top = 0; base = 0; owed = owed; history = replicate 8 0; arrived = arrived; told = told }) v []
 new_keeps v owed arrived told none all_false =
     record {
@@ -194,7 +194,7 @@ new_keeps v owed arrived told none all_false =
       base = refl;
       owed = none ∙ owed_none v;
       history = λ e i in_range. zero_bit i in_range;
-      fates = λ n low near. rw all_false (get_or-replicate KEPT (n % KEPT) false false (mod_below n KEPT (omega arith)));
+      fates = λ n low near. rw all_false (get_or-replicate fates_kept (n % fates_kept) false false (mod_below n fates_kept (omega arith)));
       told = λ n above low. absurd (omega arith);
     }
   where
@@ -224,7 +224,7 @@ like_keeps book v past later h sent taken moved recent told =
       history = λ e i within.
           h.history e i within ∙ ap (λ (ns : List ℕ). if is_among (greatest_of ns - i) ns then 1 else 0) taken;
       fates = λ n low near.
-          h.fates n (subst (λ (k : ℕ). n ≤ k) (sym high) low) (subst (λ (k : ℕ). k < n + KEPT) (sym high) near) ∙ ap (is_among n) moved;
+          h.fates n (subst (λ (k : ℕ). n ≤ k) (sym high) low) (subst (λ (k : ℕ). k < n + fates_kept) (sym high) near) ∙ ap (is_among n) moved;
       told = λ n over low.
           h.told n (subst (λ (k : ℕ). k < n) (sym high) over) (subst (λ (k : ℕ). n ≤ k) (sym sent) low) ∙ told n;
     }

@@ -1,6 +1,7 @@
 -- What a book answers.
 use Rattle.std.specs.Prelude.{ℕ, ℤ, pos, List, Bool, Result, Ok, Err, int_lt, unsigned_abs, if◌then◌else◌}
 use Rattle.std.specs.List.{list_any}
+use Rattle.protocol_model.specs.Limits.{packet_modulus}
 use Rattle.protocol_model.specs.Bits.{near}
 use Rattle.protocol_model.specs.Packet.{Head}
 use Rattle.connection_model.specs.Feed.{Past, Told}
@@ -11,7 +12,7 @@ use Rattle.ack_book.specs.declared.answer.BadAck.{BadAck}
 
 -- an acknowledgement's number: the one nearest to the greatest moved number
 abbrev pub acked_near : Past → ℕ → ℤ
-acked_near past n = near n (pos (high_of past)) 16384
+acked_near past n = near n (pos (high_of past)) packet_modulus
 
 -- a number above the last one sent is bad, one that isn't above the greatest moved is ignored,
 -- another moves

@@ -5,9 +5,9 @@ use Rattle.protocol_model.specs.declared.Version.TheVariants.{Two}
 use Rattle.protocol_model.specs.Search.{is_among}
 use Rattle.connection_model.specs.Feed.{Past}
 use Rattle.connection_model.specs.Fates.{taken_of, top_of, owed_of, moved_of, high_of, last_sent, top_when}
-use Rattle.ack_book.specs.Book.{Book}
+use Rattle.ack_book.specs.Book.{Book, fates_kept}
 use Rattle.ack_book.specs.History.{bit_in}
-use Rattle.ack_book.specs.declared.TheConstants.{KEPT, UNRESOLVED_MAX}
+use Rattle.protocol_model.specs.Limits.{unresolved_limit}
 
 -- the book is right about all that the end did: each number that it keeps, in version Two which of
 -- the last 256 numbers were taken, the fates of the last 8,192 packets that are resolved, and what
@@ -21,7 +21,7 @@ pub record Keeps (book : Book) (v : Version) (past : Past) : Type 0 where
   pub owed : book.owed ≡ owed_of v past
   pub history : v ≡ Two → (i : ℕ) → i < 256
       → bit_in book.history i ≡ (if is_among (top_of past - i) (taken_of past) then 1 else 0)
-  pub fates : (n : ℕ) → n ≤ high_of past → high_of past < n + KEPT
-      → slice_index_or book.arrived (n % KEPT) false ≡ is_among n (moved_of past)
+  pub fates : (n : ℕ) → n ≤ high_of past → high_of past < n + fates_kept
+      → slice_index_or book.arrived (n % fates_kept) false ≡ is_among n (moved_of past)
   pub told : (n : ℕ) → high_of past < n → n ≤ last_sent past
-      → slice_index_or book.told (n % UNRESOLVED_MAX) 0 ≡ top_when past n
+      → slice_index_or book.told (n % unresolved_limit) 0 ≡ top_when past n

@@ -1,4 +1,5 @@
 // What a book answers to numbers that came in packets.
+use thiserror::Error;
 
 /// What an acknowledgement did.
 #[derive(Clone, Copy, Debug, PartialEq, Eq)]
@@ -10,14 +11,16 @@ pub enum Acked {
 }
 
 /// A packet isn't new: `number` is its number, and `last` the greatest one taken before.
-#[derive(Clone, Copy, Debug, PartialEq, Eq)]
+#[derive(Clone, Copy, Debug, PartialEq, Eq, Error)]
+#[error("packet {number} is not above {last}")]
 pub struct Old {
     pub number: i64,
     pub last: u64,
 }
 
 /// A packet is acknowledged that wasn't sent: `acked` is its number, and `sent` the last one sent.
-#[derive(Clone, Copy, Debug, PartialEq, Eq)]
+#[derive(Clone, Copy, Debug, PartialEq, Eq, Error)]
+#[error("packet {acked} is acknowledged, and {sent} was the last one sent")]
 pub struct BadAck {
     pub acked: i64,
     pub sent: u64,

@@ -5,16 +5,19 @@ ghost use Rattle.connection_model.specs.Feed.{Past, Deed, Item, Entry, Delivered
 ghost use Rattle.connection_model.specs.Fates.{is_new, number_near, top_of, last_sent, high_of, fate_of, unresolved_count, owed_of, head_of};
 ghost use Rattle.protocol_model.specs.Packet.{is_head};
 ghost use Rattle.protocol_model.specs.Sight.{Seen};
+ghost use Rattle.protocol_model.specs.Limits.{packet_modulus, unresolved_limit};
+ghost use Rattle.ack_book.specs.Book.{fates_kept};
 ghost use Rattle.ack_book.specs.Keeps.{Keeps};
 ghost use Rattle.ack_book.specs.Answers.{answer_to, named_in, names_unsent};
 ghost use Rattle.bit_io.specs.HeadOf.{head_of as head_told, IsHead};
 
+use crate::FATES_KEPT;
 use crate::answer::{Acked, BadAck, Old};
 use crate::history::{first_set, first_words, note_number, word_count};
 use crate::ring::{mark_arrived, mark_named};
-use crate::{KEPT, NUMBER_MODULUS, OWED_MAX, UNRESOLVED_MAX};
 use bit_io::{Head, Memory, near};
 use circular_buffer::HeapCircularBuffer;
+use protocol_model::limits::{OWED_LIMIT, PACKET_MODULUS, UNRESOLVED_LIMIT};
 use protocol_model::{Fate, Version};
 use std::alloc::Global;
 use std::marker::Model;
@@ -38,8 +41,8 @@ pub struct AckBook {
 
 impl Model for AckBook {
     ghost use Rattle.std.specs.Prelude.{◌≡◌, ◌+◌, ◌≤◌, ◌<◌, ◌^◌, vec_len};
-    ghost use Rattle.ack_book.specs.Book.{Book};
-    ghost use Rattle.ack_book.specs.declared.TheConstants.{KEPT, UNRESOLVED_MAX, OWED_MAX};
+    ghost use Rattle.protocol_model.specs.Limits.{owed_limit, unresolved_limit};
+    ghost use Rattle.ack_book.specs.Book.{Book, fates_kept};
 
     ghost Value = { Book };
 
@@ -55,9 +58,9 @@ impl Model for AckBook {
       told = b.told.items;
     } };
 
-    ghost invariant = { λ b. (vec_len b.arrived ≡ KEPT) × (vec_len b.told ≡ UNRESOLVED_MAX)
-        × (b.owed.capacity ≡ OWED_MAX) × (b.high ≤ b.last_sent)
-        × (b.last_sent ≤ b.high + UNRESOLVED_MAX)
+    ghost invariant = { λ b. (vec_len b.arrived ≡ fates_kept) × (vec_len b.told ≡ unresolved_limit)
+        × (b.owed.capacity ≡ owed_limit) × (b.high ≤ b.last_sent)
+        × (b.last_sent ≤ b.high + unresolved_limit)
         × (b.last_sent ≤ 2 ^ 61) };
 }
 
@@ -66,9 +69,9 @@ impl AckBook {
     pub fn new(alloc: Global, version: Version) -> Result<AckBook, Memory>
         ensures { IfOk result (λ book. Keeps book version []) }
     {
-        let owed = HeapCircularBuffer::with_capacity(alloc, OWED_MAX)?;
-        let arrived = vec![in alloc; false; KEPT as usize]?;
-        let told = vec![in alloc; 0; UNRESOLVED_MAX as usize]?;
+        let owed = HeapCircularBuffer::with_capacity(alloc, OWED_LIMIT)?;
+        let arrived = vec![in alloc; false; FATES_KEPT as usize]?;
+        let told = vec![in alloc; 0; UNRESOLVED_LIMIT as usize]?;
         Ok(AckBook {
             version,
             last_sent: 0,
@@ -82,9 +85,17 @@ impl AckBook {
         })
     }
 
+    /// The version of the packets.
+    pub fn version(&self) -> Version
+        ensures { result ≡ self.now.version }
+    {
+        self.version
+    }
+
     /// The number of the last packet sent, 0 at first.
     pub fn last_sent(&self) -> u64
         ensures kept { result ≡ self.now.last_sent }
+        ensures most { result ≤ 2 ^ 61 }
         ensures number { (version : Version) (past : Past) → Keeps self.now version past
             → result ≡ last_sent past }
     {
@@ -94,6 +105,7 @@ impl AckBook {
     /// The greatest number of a packet that is known to have arrived, 0 at first.
     pub fn high(&self) -> u64
         ensures kept { result ≡ self.now.high }
+        ensures most { result ≤ 2 ^ 61 }
         ensures number { (version : Version) (past : Past) → Keeps self.now version past
             → result ≡ high_of past }
     {
@@ -112,7 +124,7 @@ impl AckBook {
     /// How many packets have an open fate, at most 4,096.
     pub fn unresolved(&self) -> u32
         ensures kept { self.now.high + result ≡ self.now.last_sent }
-        ensures most { result ≤ UNRESOLVED_MAX }
+        ensures most { result ≤ unresolved_limit }
         ensures count { (version : Version) (past : Past) → Keeps self.now version past
             → result ≡ unresolved_count past }
     {
@@ -123,7 +135,7 @@ impl AckBook {
     ///
     /// Fewer than 4,096 packets have an open fate, and numbers are below 2^61.
     pub fn sent(&mut self) -> u64
-        requires room { self.old.last_sent < self.old.high + UNRESOLVED_MAX }
+        requires room { self.old.last_sent < self.old.high + unresolved_limit }
         requires numbers { self.old.last_sent < 2 ^ 61 }
         ensures number { (version : Version) (past : Past) → Keeps self.old version past
             → result ≡ last_sent past + 1 }
@@ -132,7 +144,7 @@ impl AckBook {
             → Keeps self.new version (Deed.Sent result t items ∷ past) }
     {
         let number = self.last_sent + 1;
-        self.told[(number % UNRESOLVED_MAX) as usize] = self.top;
+        self.told[(number % UNRESOLVED_LIMIT) as usize] = self.top;
         self.last_sent = number;
         number
     }
@@ -144,7 +156,7 @@ impl AckBook {
     /// `Old` comes exactly where that number isn't above the greatest one taken, and changes
     /// nothing.
     pub fn take_number(&mut self, n: u16) -> Result<u64, Old>
-        requires n_below { n < NUMBER_MODULUS }
+        requires n_below { n < packet_modulus }
         requires numbers { self.old.top < 2 ^ 61 }
         ensures taken { (version : Version) (past : Past) → Keeps self.old version past
             → (IsOk result ↔ IsTrue (is_new past n)) }
@@ -157,7 +169,7 @@ impl AckBook {
             → Keeps self.new version (Deed.Took number [] [] ∷ past)) }
         ensures unchanged { OnErr result (self.new ≡ self.old) }
     {
-        let number = near(n as u32, self.top as i64, NUMBER_MODULUS);
+        let number = near(n as u32, self.top as i64, PACKET_MODULUS);
         if number <= self.top as i64 {
             return Err(Old {
                 number,
@@ -176,7 +188,7 @@ impl AckBook {
     ///
     /// `BadAck` comes exactly where that number is above the last one sent, and changes nothing.
     pub fn take_ack(&mut self, n: u16) -> Result<Acked, BadAck>
-        requires { n < NUMBER_MODULUS }
+        requires { n < packet_modulus }
         ensures answer { (version : Version) (past : Past) → Keeps self.old version past
             → result ≡ answer_to past n }
         ensures keeps { OnOk result ((version : Version) (past : Past) (m : ℕ)
@@ -185,7 +197,7 @@ impl AckBook {
             → Keeps self.new version (Deed.Took m (Entry.Acked n ∷ entries) handed ∷ past)) }
         ensures unchanged { OnErr result (self.new ≡ self.old) }
     {
-        let acked = near(n as u32, self.high as i64, NUMBER_MODULUS);
+        let acked = near(n as u32, self.high as i64, PACKET_MODULUS);
         if acked > self.last_sent as i64 {
             return Err(BadAck {
                 acked,
@@ -197,7 +209,7 @@ impl AckBook {
         }
         let (from, to) = (self.high, acked as u64);
         mark_arrived(&mut self.arrived, from, to);
-        self.base = self.told[(to % UNRESOLVED_MAX) as usize];
+        self.base = self.told[(to % UNRESOLVED_LIMIT) as usize];
         self.high = to;
         Ok(Acked::Moved { from, to })
     }
@@ -206,13 +218,13 @@ impl AckBook {
     pub fn fate(&self, n: u64) -> Fate
         requires first { 1 ≤ n }
         requires sent { n ≤ self.now.last_sent }
-        requires kept { self.now.last_sent < n + KEPT }
+        requires kept { self.now.last_sent < n + fates_kept }
         ensures { (version : Version) (past : Past) → Keeps self.now version past
             → result ≡ fate_of past n }
     {
         if n > self.high {
             Fate::Open
-        } else if self.arrived[(n % KEPT) as usize] {
+        } else if self.arrived[(n % FATES_KEPT) as usize] {
             Fate::Arrived
         } else {
             Fate::Lost
@@ -255,7 +267,7 @@ impl AckBook {
             Version::Two => {
                 let count = word_count(self.top.saturating_sub(self.base));
                 Head {
-                    top: (self.top % NUMBER_MODULUS as u64) as u16,
+                    top: (self.top % PACKET_MODULUS as u64) as u16,
                     count,
                     words: first_words(&self.history, count),
                 }
@@ -269,7 +281,7 @@ impl AckBook {
     /// `BadAck` comes exactly where it names a number above the last one sent, and changes nothing.
     /// It keeps the greatest number named.
     pub fn take_head(&mut self, h: Head) -> Result<(), BadAck>
-        requires top { h.top < NUMBER_MODULUS }
+        requires top { h.top < packet_modulus }
         requires whole { IsHead h }
         ensures bad { (version : Version) (past : Past) → Keeps self.old version past
             → (IsErr result ↔ IsTrue (names_unsent past (head_told h))) }
@@ -283,7 +295,7 @@ impl AckBook {
             (Deed.Took m (Entry.Told (head_told h) ∷ entries) handed ∷ past)) }
         ensures unchanged { OnErr result (self.new ≡ self.old) }
     {
-        let top = near(h.top as u32, self.high as i64, NUMBER_MODULUS);
+        let top = near(h.top as u32, self.high as i64, PACKET_MODULUS);
         let Some(first) = first_set(&h.words) else {
             return Ok(());
         };
@@ -299,7 +311,7 @@ impl AckBook {
         }
         let (from, newest) = (self.high, greatest as u64);
         mark_named(&mut self.arrived, &h.words, first as u64, from, newest);
-        self.base = self.told[(newest % UNRESOLVED_MAX) as usize];
+        self.base = self.told[(newest % UNRESOLVED_LIMIT) as usize];
         self.high = newest;
         Ok(())
     }

@@ -1,26 +1,27 @@
 // A ring that tells of each of the last packets whether it arrived.
 ghost use Rattle.std.specs.Prelude.{◌≡◌, ◌+◌, ◌-◌, ◌%◌, ◌^◌, ◌<◌, ◌≤◌, ◌==◌, ℕ, length, true, false, slice_index_or};
+ghost use Rattle.ack_book.specs.Book.{fates_kept};
 ghost use Rattle.ack_book.specs.History.{bit_in};
 
-use crate::KEPT;
+use crate::FATES_KEPT;
 use crate::history::is_set;
 
 /// Marks the numbers above `from` and below `to` as lost, and `to` as arrived, each at its place.
 pub fn mark_arrived(ring: &mut Vec<bool>, from: u64, to: u64)
     requires below { from < to }
-    requires len { length ring.old.items ≡ KEPT }
-    ensures len { length ring.new.items ≡ KEPT }
-    ensures arrived { slice_index_or ring.new.items (to % KEPT) false ≡ true }
-    ensures lost { (n : ℕ) → from < n → n < to → to < n + KEPT
-        → slice_index_or ring.new.items (n % KEPT) false ≡ false }
-    ensures kept { (n : ℕ) → n ≤ from → to < n + KEPT
-        → slice_index_or ring.new.items (n % KEPT) false
-        ≡ slice_index_or ring.old.items (n % KEPT) false }
+    requires len { length ring.old.items ≡ fates_kept }
+    ensures len { length ring.new.items ≡ fates_kept }
+    ensures arrived { slice_index_or ring.new.items (to % fates_kept) false ≡ true }
+    ensures lost { (n : ℕ) → from < n → n < to → to < n + fates_kept
+        → slice_index_or ring.new.items (n % fates_kept) false ≡ false }
+    ensures kept { (n : ℕ) → n ≤ from → to < n + fates_kept
+        → slice_index_or ring.new.items (n % fates_kept) false
+        ≡ slice_index_or ring.old.items (n % fates_kept) false }
 {
     for number in from + 1..to {
-        ring[(number % KEPT) as usize] = false;
+        ring[(number % FATES_KEPT) as usize] = false;
     }
-    ring[(to % KEPT) as usize] = true;
+    ring[(to % FATES_KEPT) as usize] = true;
 }
 
 /// Marks each number above `from`, up to `to`, by the bit of the history that stands for it, where
@@ -29,16 +30,16 @@ pub fn mark_named(ring: &mut Vec<bool>, words: &[u32; 8], first: u64, from: u64,
     requires below { from < to }
     requires most { to < 2 ^ 62 }
     requires first { first < 256 }
-    requires len { length ring.old.items ≡ KEPT }
-    ensures len { length ring.new.items ≡ KEPT }
-    ensures named { (n : ℕ) → from < n → n ≤ to → to < n + KEPT
-        → slice_index_or ring.new.items (n % KEPT) false
+    requires len { length ring.old.items ≡ fates_kept }
+    ensures len { length ring.new.items ≡ fates_kept }
+    ensures named { (n : ℕ) → from < n → n ≤ to → to < n + fates_kept
+        → slice_index_or ring.new.items (n % fates_kept) false
         ≡ (bit_in words.now (first + (to - n)) == 1) }
-    ensures kept { (n : ℕ) → n ≤ from → to < n + KEPT
-        → slice_index_or ring.new.items (n % KEPT) false
-        ≡ slice_index_or ring.old.items (n % KEPT) false }
+    ensures kept { (n : ℕ) → n ≤ from → to < n + fates_kept
+        → slice_index_or ring.new.items (n % fates_kept) false
+        ≡ slice_index_or ring.old.items (n % fates_kept) false }
 {
     for number in from + 1..to + 1 {
-        ring[(number % KEPT) as usize] = is_set(words, first + (to - number));
+        ring[(number % FATES_KEPT) as usize] = is_set(words, first + (to - number));
     }
 }

@@ -2,7 +2,8 @@
 ghost use Rattle.std.specs.Prelude.{◌≡◌, ◌<◌};
 ghost use Rattle.bit_io.specs.HeadOf.{IsHead};
 
-use crate::{AckBook, Acked, BadAck, Fate, Head, KEPT, Old, UNRESOLVED_MAX, Version};
+use crate::{AckBook, Acked, BadAck, FATES_KEPT, Fate, Head, Old, Version};
+use protocol_model::limits::UNRESOLVED_LIMIT;
 use std::process::Abort;
 use std::test::Fail;
 
@@ -10,7 +11,7 @@ use std::test::Fail;
 const NUMBERS: u64 = 1 << 61;
 
 fn send(rt: &impl Abort, book: &mut AckBook) -> u64 {
-    assert!(rt; book.unresolved() < UNRESOLVED_MAX as u32);
+    assert!(rt; book.unresolved() < UNRESOLVED_LIMIT as u32);
     assert!(rt; book.last_sent() < NUMBERS);
     book.sent()
 }
@@ -22,7 +23,7 @@ fn take(rt: &impl Abort, book: &mut AckBook, number: u64) -> Result<u64, Old> {
 
 fn fate(rt: &impl Abort, book: &AckBook, number: u64) -> Fate {
     let last = book.last_sent();
-    assert!(rt; number >= 1 && number <= last && last - number < KEPT);
+    assert!(rt; number >= 1 && number <= last && last - number < FATES_KEPT);
     book.fate(number)
 }
 

@@ -1,4 +1,7 @@
 // The history that every packet of version two carries.
+//
+// It is a part of a packet, and stands here since both the crate that spells it and the crate that
+// keeps it stand on this one, and neither on the other.
 
 /// The greatest number taken, and a history of 32 numbers a word from it downwards.
 ///

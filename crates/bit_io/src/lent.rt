@@ -1,8 +1,14 @@
 // Parts of bytes that were lent, and readers over them, both seen by their fields.
+//
+// The two types stand apart from their methods (`slice`, `reader`), since the definitions that those
+// methods cite are about them.
 ghost use Rattle.std.specs.Prelude.{◌<◌, ◌≤◌, ◌*◌, ◌^◌, length};
 
+use thiserror::Error;
+
 /// Too few bits are left.
-#[derive(Clone, Copy, Debug, PartialEq, Eq)]
+#[derive(Clone, Copy, Debug, PartialEq, Eq, Error)]
+#[error("too few bits are left")]
 pub struct Short;
 
 /// The bits of some bytes from one place up to another, lent without copying.

@@ -5,10 +5,23 @@
 // `put` can fail. A reader lends parts of the bytes without copying them. The spellings are those
 // of `protocol_model`: numbers below a bound, packed numbers, and numbers of a fixed width.
 //
-// It stands on `protocol_model` for what a spelling is. It promises that each `put` appends exactly
-// the spelling, that each read takes exactly the spelling that begins the bits left, and that a
-// reader that refuses stays where it was. It knows no packet, no field's meaning and no input or
-// output.
+// It stands on `protocol_model` for what a spelling is, and on `protocol_laws` for what is proved of
+// spellings. It promises that each `put` appends exactly the spelling, that each read takes exactly
+// the spelling that begins the bits left, and that a reader that refuses stays where it was. It knows
+// no packet, no field's meaning and no input or output.
+//
+//     BitWriter  --finish-->  Blob: bytes  --BitReader::new-->  BitReader  --take-->  BitSlice
+//         \____into_bits____________________>  Bits  --lend------------------------->
+//
+// A caller:
+//
+//     let mut writer = BitWriter::with_room(alloc, 72)?;
+//     writer.put_int(5, 10);
+//     writer.put_packed(300);
+//     let bytes = writer.finish();
+//     let mut reader = BitReader::new(bytes.as_slice(), 8 * bytes.len());
+//     let five = reader.int(10)?;
+//     let many = reader.packed()?;
 #![tactic(auto)]
 
 mod bits;

@@ -21,7 +21,8 @@ pub(crate) fn add_bits(bytes: &mut Vec<u8>, at: usize, value: u64, width: u32)
     requires small { length bytes.old.items < 2 ^ 58 }
     requires clear { number_of_bytes bytes.old.items < 2 ^ at }
     ensures len { length bytes.new.items ≡ length bytes.old.items }
-    ensures number { number_of_bytes bytes.new.items ≡ number_of_bytes bytes.old.items + value * 2 ^ at }
+    ensures number { number_of_bytes bytes.new.items
+        ≡ number_of_bytes bytes.old.items + value * 2 ^ at }
 {
     let first = at / 8;
     let shift = (at % 8) as u32;
@@ -35,9 +36,11 @@ pub(crate) fn add_bits(bytes: &mut Vec<u8>, at: usize, value: u64, width: u32)
 /// Adds a number to eight bytes, which have room for the sum.
 fn add_word(bytes: &mut Vec<u8>, first: usize, word: u64)
     requires within { first + 8 ≤ length bytes.old.items }
-    requires fits { number_of_bytes bytes.old.items + word * 2 ^ (8 * first) < 2 ^ (8 * first + 64) }
+    requires fits { number_of_bytes bytes.old.items + word * 2 ^ (8 * first)
+        < 2 ^ (8 * first + 64) }
     ensures len { length bytes.new.items ≡ length bytes.old.items }
-    ensures number { number_of_bytes bytes.new.items ≡ number_of_bytes bytes.old.items + word * 2 ^ (8 * first) }
+    ensures number { number_of_bytes bytes.new.items
+        ≡ number_of_bytes bytes.old.items + word * 2 ^ (8 * first) }
 {
     let sum = word_at(bytes.as_slice(), first) + word;
     bytes[first..first + 8].copy_from_slice(&sum.to_le_bytes());
@@ -51,7 +54,8 @@ fn add_by_bytes(bytes: &mut Vec<u8>, at: usize, value: u64, width: u32)
     requires small { length bytes.old.items < 2 ^ 58 }
     requires clear { number_of_bytes bytes.old.items < 2 ^ at }
     ensures len { length bytes.new.items ≡ length bytes.old.items }
-    ensures number { number_of_bytes bytes.new.items ≡ number_of_bytes bytes.old.items + value * 2 ^ at }
+    ensures number { number_of_bytes bytes.new.items
+        ≡ number_of_bytes bytes.old.items + value * 2 ^ at }
 {
     let mut place = at;
     let mut left = width;
@@ -73,7 +77,8 @@ fn add_part(bytes: &mut Vec<u8>, place: usize, part: u64, count: u32)
     requires fits { part < 2 ^ count }
     requires clear { number_of_bytes bytes.old.items < 2 ^ place }
     ensures len { length bytes.new.items ≡ length bytes.old.items }
-    ensures number { number_of_bytes bytes.new.items ≡ number_of_bytes bytes.old.items + part * 2 ^ place }
+    ensures number { number_of_bytes bytes.new.items
+        ≡ number_of_bytes bytes.old.items + part * 2 ^ place }
 {
     let shifted = part << (place % 8);
     bytes[place / 8] += shifted as u8;

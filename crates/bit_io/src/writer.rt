@@ -1,5 +1,5 @@
 // Writing bits into room that was taken at once.
-ghost use Rattle.std.specs.Prelude.{◌≡◌, ◌∷◌, [], ◌<◌, ◌≤◌, ◌^◌, length, IfOk};
+ghost use Rattle.std.specs.Prelude.{◌≡◌, ◌∷◌, [], ◌<◌, ◌≤◌, ◌+◌, ◌^◌, length, IfOk};
 ghost use Rattle.protocol_model.specs.Bits.{digits, bytes_of, int_bits, packed_bits, fixed_bits};
 ghost use Rattle.protocol_laws.specs.Packed.{number_of_bytes};
 ghost use Rattle.bit_io.specs.Written.{Appends, IsClear};
@@ -40,10 +40,12 @@ impl Model for BitWriter {
 }
 
 impl BitWriter {
-    /// An empty writer with room for at least so many bits. `Memory` where there is no such room.
+    /// An empty writer with room for `bits` bits, and for fewer than eight more.
+    /// `Memory` where there is no such room.
     pub fn with_room(alloc: Global, bits: usize) -> Result<BitWriter, Memory>
         ensures empty { IfOk result (λ w. w.bits ≡ []) }
         ensures room { IfOk result (λ w. bits ≤ w.spare) }
+        ensures most { IfOk result (λ w. w.spare < bits + 8) }
     {
         if bits > MOST_BITS {
             return Err(Memory);

@@ -13,7 +13,7 @@ ends_behind bytes last j z least most is some whole low high = record {
   content = content_at bytes j z least whole (rw is low) (rw is high);
   decides = λ version. packet_of-content version bytes least most (rw is some);
   within = omega arith;
-  small = most;
+  ended = record { some = least; most = most; last = rw is some };
 }
 
 -- what the last byte says of the content's end

@@ -27,6 +27,12 @@ appends_more f xs i d a b c h p q =
     ap (flat_map f) (take_more xs i d h) ∙ flat_map-append f (take i xs) (get_or xs i d ∷ []) ∙ ap (λ (last : List Bool). flat_map f (take i xs) ++ last) (append-nil (f (get_or xs i d))) in
     subst (λ (bits : List Bool). Appends a c bits) (sym more) (appends_then a b c (flat_map f (take i xs)) (f (get_or xs i d)) p q)
 
+-- how long the spellings are with one element more
+pub length_more : {X : Type 0} (f : X → List Bool) (xs : List X) (i : ℕ) (d : X) → i < length xs → length (flat_map f (take (i + 1) xs)) ≡ length (flat_map f (take i xs)) + length (f (get_or xs i d))
+length_more f xs i d h =
+    let more : flat_map f (take (i + 1) xs) ≡ flat_map f (take i xs) ++ (f (get_or xs i d) ++ []) = ap (flat_map f) (take_more xs i d h) ∙ flat_map-append f (take i xs) (get_or xs i d ∷ []) in
+    ap length more ∙ length-append (flat_map f (take i xs)) (f (get_or xs i d) ++ []) ∙ omega (arith, length-append (f (get_or xs i d)) [])
+
 -- five parts, one behind the other
 pub appends_five : (w0 w1 w2 w3 w4 w5 : Written) (a b c d e : List Bool) → Appends w0 w1 a → Appends w1 w2 b → Appends w2 w3 c → Appends w3 w4 d → Appends w4 w5 e → Appends w0 w5 (a ++ (b ++ (c ++ (d ++ e))))
 appends_five w0 w1 w2 w3 w4 w5 a b c d e p q r s t =

@@ -8,3 +8,8 @@ use Rattle.packet_codec.specs.declared.packet.Rec.TheVariants.{Ack, Bunch}
 abbrev pub IsLentFrom : Bor (List ℕ) → Rec → Type 0
 IsLentFrom bytes (Ack number) = ⊤
 IsLentFrom bytes (Bunch bunch) = bunch.payload.bytes ≡ bytes
+
+-- the entry's payload, where it has one, ends at this bit
+abbrev pub EndsWith : ℕ → Rec → Type 0
+EndsWith place (Ack number) = ⊤
+EndsWith place (Bunch bunch) = bunch.payload.to ≡ place

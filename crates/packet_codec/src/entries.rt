@@ -4,7 +4,7 @@ ghost use Rattle.protocol_model.specs.PacketReading.{bunch_at, part_of, rec_at, 
 ghost use Rattle.packet_codec.specs.Reads.{Follows, FollowsAs, GoesOn};
 ghost use Rattle.protocol_laws.specs.Fields.{on_channel_at, numbered_at};
 ghost use Rattle.packet_codec.specs.Values.{bunch_of, rec_of, opening_of, standing_of};
-ghost use Rattle.packet_codec.specs.Lent.{IsLentFrom};
+ghost use Rattle.packet_codec.specs.Lent.{IsLentFrom, EndsWith};
 
 use crate::fault::Fault;
 use crate::fields::{
@@ -12,6 +12,7 @@ use crate::fields::{
 };
 use crate::packet::{Bunch, Rec};
 use bit_io::BitReader;
+use protocol_model::limits::{BUNCH_BITS_LIMIT, PACKET_MODULUS, SEQUENCE_MODULUS};
 use protocol_model::{Part, Version};
 
 /// What a bunch's header says before its channel.
@@ -35,13 +36,14 @@ struct Standing {
 pub fn entry<'a>(version: Version, reader: &mut BitReader<'a>) -> Result<Rec<'a>, Fault>
     ensures exact { FollowsAs rec_of (rec_at version) reader.old reader.new result }
     ensures lent { IfOk result (λ r. IsLentFrom reader.old.bytes r) }
+    ensures place { IfOk result (λ r. EndsWith reader.new.place r) }
     ensures on { OnOk result (GoesOn reader.old reader.new) }
     ensures onward { OnOk result (reader.old.place < reader.new.place) }
 {
     match version {
         Version::One => {
             if flag(reader)? {
-                return Ok(Rec::Ack(int(reader, 16384)? as u16));
+                return Ok(Rec::Ack(int(reader, PACKET_MODULUS)? as u16));
             }
         }
         Version::Two => {}
@@ -53,6 +55,7 @@ pub fn entry<'a>(version: Version, reader: &mut BitReader<'a>) -> Result<Rec<'a>
 fn bunch<'a>(version: Version, reader: &mut BitReader<'a>) -> Result<Bunch<'a>, Fault>
     ensures exact { FollowsAs bunch_of (bunch_at version) reader.old reader.new result }
     ensures lent { IfOk result (λ b. b.payload.bytes ≡ reader.old.bytes) }
+    ensures place { IfOk result (λ b. b.payload.to ≡ reader.new.place) }
     ensures on { OnOk result (GoesOn reader.old reader.new) }
     ensures onward { OnOk result (reader.old.place < reader.new.place) }
 {
@@ -80,8 +83,10 @@ fn on_channel<'a>(
     reader: &mut BitReader<'a>,
     opening: Opening,
 ) -> Result<Bunch<'a>, Fault>
-    ensures exact { FollowsAs bunch_of (on_channel_at version (opening_of opening)) reader.old reader.new result }
+    ensures exact { FollowsAs bunch_of (on_channel_at version (opening_of opening))
+        reader.old reader.new result }
     ensures lent { IfOk result (λ b. b.payload.bytes ≡ reader.old.bytes) }
+    ensures place { IfOk result (λ b. b.payload.to ≡ reader.new.place) }
     ensures on { OnOk result (GoesOn reader.old reader.new) }
 {
     let channel = channel(version, reader)?;
@@ -105,15 +110,17 @@ fn numbered<'a>(
     opening: Opening,
     standing: Standing,
 ) -> Result<Bunch<'a>, Fault>
-    ensures exact { FollowsAs bunch_of (numbered_at (opening_of opening) (standing_of standing)) reader.old reader.new result }
+    ensures exact { FollowsAs bunch_of (numbered_at (opening_of opening) (standing_of standing))
+        reader.old reader.new result }
     ensures lent { IfOk result (λ b. b.payload.bytes ≡ reader.old.bytes) }
+    ensures place { IfOk result (λ b. b.payload.to ≡ reader.new.place) }
     ensures on { OnOk result (GoesOn reader.old reader.new) }
 {
-    let seq = int_if(reader, opening.reliable, 1024)?;
+    let seq = int_if(reader, opening.reliable, SEQUENCE_MODULUS)?;
     let initial = flag_if(reader, standing.partial)?;
     let last = flag_if(reader, standing.partial)?;
     let kind = kind(reader, opening.reliable)?;
-    let size = int(reader, 8192)?;
+    let size = int(reader, BUNCH_BITS_LIMIT)?;
     let payload = slice(reader, size as usize)?;
     Ok(Bunch {
         opens: opening.opens,

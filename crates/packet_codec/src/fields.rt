@@ -8,6 +8,7 @@ ghost use Rattle.protocol_laws.specs.Fields.{closes_at, reserved_at, reliable_at
 
 use crate::fault::Fault;
 use bit_io::{BitReader, BitSlice, Short};
+use protocol_model::limits::{CHANNELS_ONE, CHANNELS_TWO};
 use protocol_model::{NumRefusal, Version, Why};
 
 /// One bit.
@@ -170,7 +171,7 @@ pub fn channel(version: Version, reader: &mut BitReader<'_>) -> Result<u16, Faul
     ensures on { OnOk result (GoesOn reader.old reader.new) }
 {
     match version {
-        Version::One => Ok(int(reader, 10240)? as u16),
+        Version::One => Ok(int(reader, CHANNELS_ONE)? as u16),
         Version::Two => packed_channel(reader),
     }
 }
@@ -183,7 +184,7 @@ fn packed_channel(reader: &mut BitReader<'_>) -> Result<u16, Fault>
     let left = reader.left();
     match reader.packed() {
         Ok(channel) => {
-            if channel >= 32768 {
+            if channel >= CHANNELS_TWO {
                 return Err(Fault::Broken {
                     left,
                     why: Why::Wide,
@@ -199,10 +200,11 @@ fn packed_channel(reader: &mut BitReader<'_>) -> Result<u16, Fault>
     }
 }
 
-/// So many bits, lent.
+/// `count` bits, lent.
 pub fn slice<'a>(reader: &mut BitReader<'a>, count: usize) -> Result<BitSlice<'a>, Fault>
     ensures exact { FollowsAs slice_bits (bits_at count) reader.old reader.new result }
     ensures lent { IfOk result (λ s. s.bytes ≡ reader.old.bytes) }
+    ensures place { IfOk result (λ s. s.to ≡ reader.new.place) }
     ensures on { OnOk result (GoesOn reader.old reader.new) }
 {
     Ok(reader.take(count)?)

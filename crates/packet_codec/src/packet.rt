@@ -4,6 +4,7 @@ ghost use Rattle.std.specs.Prelude.{◌≡◌, ◌==◌, length};
 use bit_io::{BitSlice, Head};
 use protocol_model::{Part, Why};
 use std::marker::Model;
+use thiserror::Error;
 
 /// A payload, or a part of one, as it goes on a channel.
 #[derive(Clone, Copy, Debug)]
@@ -104,10 +105,12 @@ pub struct Packet<'a> {
 }
 
 /// Why no packet was read.
-#[derive(Clone, Copy, Debug, PartialEq, Eq)]
+#[derive(Clone, Copy, Debug, PartialEq, Eq, Error)]
 pub enum DecodeRefusal {
     /// The bytes are no packet: the first rule that they break, and the bit where it is broken.
+    #[error("no packet: {why:?} at bit {at}")]
     Malformed { at: usize, why: Why },
     /// There was no memory for the list of entries.
+    #[error("out of memory")]
     Memory,
 }

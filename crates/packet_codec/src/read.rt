@@ -1,5 +1,6 @@
 // A packet's content, read from its first bit on.
 ghost use Rattle.std.specs.Prelude.{◌≡◌, ◌<◌, ◌≤◌, ◌-◌, OnOk, IfOk, All, map, take, drop, replicate, length, List};
+ghost use Rattle.protocol_model.specs.Limits.{packet_modulus};
 ghost use Rattle.protocol_model.specs.PacketReading.{head_at, words_at, recs_at, packet_at};
 ghost use Rattle.bit_io.specs.HeadOf.{head_of, IsHead};
 ghost use Rattle.bit_io.specs.Lent.{bits_left};
@@ -14,6 +15,7 @@ use crate::fields::{int, word};
 use crate::packet::{Packet, Rec, RecList};
 use bit_io::{BitReader, Head};
 use protocol_model::Version;
+use protocol_model::limits::PACKET_MODULUS;
 use std::alloc::Global;
 
 /// A packet's content.
@@ -22,11 +24,13 @@ pub fn content<'a>(
     version: Version,
     reader: &mut BitReader<'a>,
 ) -> Result<Packet<'a>, Stop>
-    ensures exact { FollowsUnlessMemory packet_value (packet_at version) reader.old reader.new result }
+    ensures exact { FollowsUnlessMemory packet_value (packet_at version)
+        reader.old reader.new result }
+    ensures number { IfOk result (λ p. p.number < packet_modulus) }
     ensures lent { IfOk result (λ p. All (IsLentFrom reader.old.bytes) p.recs) }
     ensures head { IfOk result (λ p. IsHead p.head) }
 {
-    let number = int(reader, 16384)? as u16;
+    let number = int(reader, PACKET_MODULUS)? as u16;
     let head = head(version, reader)?;
     let recs = RecList::from_vec(entries(alloc, version, reader)?);
     Ok(Packet { number, head, recs })
@@ -45,7 +49,7 @@ fn head(version: Version, reader: &mut BitReader<'_>) -> Result<Head, Fault>
             words: [0; 8],
         }),
         Version::Two => {
-            let top = int(reader, 16384)? as u16;
+            let top = int(reader, PACKET_MODULUS)? as u16;
             let count = int(reader, 8)? as u8 + 1;
             let words = words(reader, count)?;
             Ok(Head { top, count, words })
@@ -53,7 +57,7 @@ fn head(version: Version, reader: &mut BitReader<'_>) -> Result<Head, Fault>
     }
 }
 
-/// So many words of history, and 0 for those past them.
+/// `count` words of history, and 0 for those past them.
 fn words(reader: &mut BitReader<'_>, count: u8) -> Result<[u32; 8], Fault>
     requires { count ≤ 8 }
     ensures exact { FollowsAs (take count) (words_at count) reader.old reader.new result }
@@ -73,7 +77,8 @@ fn entries<'a>(
     version: Version,
     reader: &mut BitReader<'a>,
 ) -> Result<Vec<Rec<'a>>, Stop>
-    ensures exact { FollowsUnlessMemory (λ recs. map rec_of recs.items) (recs_at version (length (bits_left reader.old))) reader.old reader.new result }
+    ensures exact { FollowsUnlessMemory (λ recs. map rec_of recs.items)
+        (recs_at version (length (bits_left reader.old))) reader.old reader.new result }
     ensures lent { IfOk result (λ recs. All (IsLentFrom reader.old.bytes) recs.items) }
 {
     let mut recs = Vec::new(alloc);

@@ -270,3 +270,15 @@ fn a_bunch_takes_as_many_bits_as_its_fields(rt: HostRuntime) {
     assert_eq!(rt; bunch_bits(Version::One, &bunch), 56);
     assert_eq!(rt; bunch_bits(Version::Two, &bunch), 49);
 }
+
+#[test]
+fn a_packet_takes_room_by_what_it_needs(rt: HostRuntime) -> Result<(), Fail> {
+    for bytes in [&[0x01, 0x40][..], &OPENING[..]] {
+        let Some(blob) = spelled_again(rt.alloc(), Version::One, bytes)? else {
+            return Err(Fail::from("refused"));
+        };
+        let room = blob.into_vec().capacity();
+        assert!(rt; room <= bytes.len() + 40);
+    }
+    Ok(())
+}

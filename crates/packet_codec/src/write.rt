@@ -1,5 +1,6 @@
 // Packets into bits.
 ghost use Rattle.std.specs.Prelude.{◌≡◌, ◌<◌, ◌≤◌, ◌+◌, ◌-◌, ◌*◌, ◌^◌, ◌++◌, ◌∷◌, [], IsTrue, IfOk, length, map, take, Bool, List};
+ghost use Rattle.protocol_model.specs.Limits.{bunch_bits_limit, packet_modulus, sequence_modulus};
 ghost use Rattle.protocol_model.specs.Bits.{int_bits};
 ghost use Rattle.protocol_model.specs.Packet.{start_bits, rec_bits, spelling_of, Spells, is_rec, is_head, is_bunch, bunch_bits, channel_bits, channel_limit};
 ghost use Rattle.bit_io.specs.HeadOf.{head_of, IsHead};
@@ -9,23 +10,30 @@ ghost use Rattle.packet_codec.specs.Values.{bunch_of, rec_of, packet_value, are_
 ghost use Rattle.protocol_laws.specs.Parts.{control_bits, standing_bits, numbered_bits, words_bits};
 
 use crate::packet::{Bunch, Packet, Rec};
+use crate::sizes::entries_bits;
 use bit_io::{BitSlice, BitWriter, Blob, Head, Memory};
+use protocol_model::limits::{BUNCH_BITS_LIMIT, CHANNELS_ONE, PACKET_MODULUS, SEQUENCE_MODULUS};
 use protocol_model::{Part, Version};
 use std::alloc::Global;
 
-/// Room for a packet of 1,024 bytes, and for what each `put` asks beyond it.
-const ROOM_BITS: usize = 8 * 1024 + 320;
+/// Room for what stands before the entries, and for what each `put` asks beyond its bits.
+const START_ROOM: usize = 320;
 
 /// The bytes that spell the packet, which has a spelling in that version of at most 1,024 bytes.
+///
+/// Beside the entries' bits it takes 40 bytes. `Memory` where there is no such room.
 pub fn encode(alloc: Global, version: Version, p: &Packet) -> Result<Blob, Memory>
-    requires spelled { Spells version (packet_value p.now) (spelling_of version (packet_value p.now)) }
+    requires spelled { Spells version (packet_value p.now)
+        (spelling_of version (packet_value p.now)) }
     requires words { IsHead p.now.head }
     ensures spelling { IfOk result (λ bytes. bytes ≡ spelling_of version (packet_value p.now)) }
     ensures spells { IfOk result (λ bytes. Spells version (packet_value p.now) bytes) }
 {
-    let mut w = BitWriter::with_room(alloc, ROOM_BITS)?;
+    let recs = p.recs.as_slice();
+    let bits = entries_bits(version, recs);
+    let mut w = BitWriter::with_room(alloc, START_ROOM + bits)?;
     put_start(version, &mut w, p.number, p.head);
-    put_recs(version, &mut w, p.recs.as_slice());
+    put_recs(version, &mut w, recs);
     w.put_bit(true);
     Ok(w.finish())
 }
@@ -35,13 +43,13 @@ pub fn encode(alloc: Global, version: Version, p: &Packet) -> Result<Blob, Memor
 /// The number is below 16,384, the head has a spelling in that version with 0 in the words past its
 /// count, and there is room for 320 bits.
 pub fn put_start(version: Version, w: &mut BitWriter, number: u16, head: Head)
-    requires number { number < 16384 }
+    requires number { number < packet_modulus }
     requires words { IsHead head }
     requires head { IsTrue (is_head version (head_of head)) }
     requires room { 320 ≤ w.old.spare }
     ensures { Appends w.old w.new (start_bits version number (head_of head)) }
 {
-    w.put_int(number as u32, 16384);
+    w.put_int(number as u32, PACKET_MODULUS);
     match version {
         Version::One => {}
         Version::Two => put_head(w, head),
@@ -68,9 +76,12 @@ fn put_head(w: &mut BitWriter, head: Head)
     requires words { IsHead head }
     requires head { IsTrue (is_head Version.Two (head_of head)) }
     requires room { 306 ≤ w.old.spare }
-    ensures { Appends w.old w.new (int_bits 16384 head.top ++ int_bits 8 (length (take head.count head.words) - 1) ++ words_bits (take head.count head.words)) }
+    ensures { Appends w.old w.new
+        (int_bits packet_modulus head.top
+        ++ int_bits 8 (length (take head.count head.words) - 1)
+        ++ words_bits (take head.count head.words)) }
 {
-    w.put_int(head.top as u32, 16384);
+    w.put_int(head.top as u32, PACKET_MODULUS);
     w.put_int(head.count as u32 - 1, 8);
     put_words(w, &head.words[..head.count as usize]);
 }
@@ -105,7 +116,7 @@ fn put_marked(w: &mut BitWriter, r: &Rec)
     match r {
         Rec::Ack(number) => {
             w.put_bit(true);
-            w.put_int(*number as u32, 16384);
+            w.put_int(*number as u32, PACKET_MODULUS);
         }
         Rec::Bunch(bunch) => {
             w.put_bit(false);
@@ -151,7 +162,7 @@ fn put_channel(version: Version, w: &mut BitWriter, channel: u16)
     ensures { Appends w.old w.new (channel_bits version channel) }
 {
     match version {
-        Version::One => w.put_int(channel as u32, 10240),
+        Version::One => w.put_int(channel as u32, CHANNELS_ONE),
         Version::Two => w.put_packed(channel as u32),
     }
 }
@@ -168,13 +179,13 @@ fn put_standing(w: &mut BitWriter, exports: bool, part: Part)
 
 /// Appends the numbers of a reliable bunch, and the flags of a part.
 fn put_numbered(w: &mut BitWriter, reliable: bool, seq: u16, part: Part, kind: u8)
-    requires seq { seq < 1024 }
+    requires seq { seq < sequence_modulus }
     requires kind { kind < 8 }
     requires room { length (numbered_bits reliable seq part kind) + 32 ≤ w.old.spare }
     ensures { Appends w.old w.new (numbered_bits reliable seq part kind) }
 {
     if reliable {
-        w.put_int(seq as u32, 1024);
+        w.put_int(seq as u32, SEQUENCE_MODULUS);
     }
     if part != Part::Whole {
         w.put_bit(part == Part::First || part == Part::Lone);
@@ -187,10 +198,11 @@ fn put_numbered(w: &mut BitWriter, reliable: bool, seq: u16, part: Part, kind: u
 
 /// Appends a payload behind its length.
 fn put_payload(w: &mut BitWriter, payload: BitSlice)
-    requires size { length (slice_bits payload) < 8192 }
+    requires size { length (slice_bits payload) < bunch_bits_limit }
     requires room { length (slice_bits payload) + 45 ≤ w.old.spare }
-    ensures { Appends w.old w.new (int_bits 8192 (length (slice_bits payload.entry)) ++ slice_bits payload.entry) }
+    ensures { Appends w.old w.new
+        (int_bits bunch_bits_limit (length (slice_bits payload.entry)) ++ slice_bits payload.entry) }
 {
-    w.put_int(payload.len() as u32, 8192);
+    w.put_int(payload.len() as u32, BUNCH_BITS_LIMIT);
     w.put_slice(payload);
 }

@@ -1,11 +1,11 @@
 -- How many bits the fields of a packet take.
-use Rattle.std.proofs.Common.{◌≡◌, ℕ, suc, ◌<◌, ◌≤◌, ◌+◌, ◌*◌, ◌/◌, ◌%◌, ◌^◌, List, [], ◌∷◌, ◌++◌, Bool, true, false, cond, ◌||◌, nat_lt, refl, ap, ◌∙◌, arith, length, length-append}
+use Rattle.std.proofs.Common.{◌≡◌, ℕ, suc, ◌<◌, ◌≤◌, ◌+◌, ◌-◌, ◌*◌, ◌/◌, ◌%◌, ◌^◌, List, [], ◌∷◌, ◌++◌, Bool, true, false, cond, ◌||◌, nat_le, nat_lt, refl, ap, ◌∙◌, arith, length, length-append}
 use Rattle.std.proofs.lemmas.Bool.Decides.{nat_tests}
 use Rattle.std.proofs.lemmas.Nat.{mod_below, pow_pos}
 use Rattle.std.proofs.Math.Nat.{pow-suc, pow-le-pow_right}
-use Rattle.std.proofs.lemmas.Bool.{le-ltb, lt-ltb, ltb-true}
+use Rattle.std.proofs.lemmas.Bool.{leb-true, le-ltb, lt-ltb, ltb-true}
 use Rattle.protocol_model.specs.Bits.{digits, int_width, int_bits, packed_bits, packed_in, fixed_bits}
-use Rattle.protocol_model.specs.Packet.{Bunch, Sends, is_partial, bunch_bits, rec_bits, channel_bits}
+use Rattle.protocol_model.specs.Packet.{Bunch, Head, Ack, Sends, is_head, is_partial, is_rec, bunch_bits, rec_bits, channel_bits, start_bits}
 use Rattle.protocol_model.specs.declared.Version.{Version}
 use Rattle.protocol_model.specs.declared.Version.TheVariants.{One, Two}
 use Rattle.protocol_model.specs.declared.Part.{Part}
@@ -14,6 +14,7 @@ use Rattle.protocol_laws.specs.IntWidth.{IsIntWidth}
 use Rattle.protocol_laws.proofs.Widths.{int_width-is}
 use Rattle.protocol_laws.proofs.Digits.{length-digits}
 use Rattle.protocol_laws.specs.Parts.{control_bits, standing_bits, numbered_bits, words_bits}
+use Rattle.protocol_laws.proofs.Booleans.{left_of, right_of}
 use Rattle.protocol_laws.proofs.BunchBack.{bunch_bits-parts}
 
 -- fewer bits than k reach at most 2 ^ k
@@ -95,6 +96,31 @@ numbered_length false seq Lone kind = refl
 pub words_length : (words : List ℕ) → length (words_bits words) ≡ 32 * length words
 words_length [] = refl
 words_length (word ∷ words) = omega (arith, length-append (fixed_bits 32 word) (words_bits words), length-digits 32 word, words_length words)
+
+-- what stands before the entries
+pub start_short : (version : Version) (number : ℕ) (head : Head) → is_head version head ≡ true → length (start_bits version number head) ≤ 287
+start_short One number head h = omega (arith, power_width 14 number (omega arith))
+start_short Two number head h =
+    let n : List Bool = int_bits 16384 number in
+    let t : List Bool = int_bits 16384 head.top in
+    let c : List Bool = int_bits 8 (length head.words - 1) in
+    let most : length head.words ≤ 8 = leb-true (length head.words) 8 (right_of _ (nat_le (length head.words) 8) (left_of _ _ h)) in
+    omega (
+      arith,
+      most,
+      length-append (n ++ t ++ c) (words_bits head.words),
+      length-append (n ++ t) c,
+      length-append n t,
+      power_width 14 number (omega arith),
+      power_width 14 head.top (omega arith),
+      power_width 3 (length head.words - 1) (omega arith),
+      words_length head.words,
+    )
+
+-- an acknowledgement, with the bit before it
+pub ack_length : (version : Version) (number : ℕ) → is_rec version (Ack number) ≡ true → 15 ≡ length (rec_bits version (Ack number))
+ack_length One number h = omega (arith, power_width 14 number (omega arith))
+ack_length Two number h = absurd (cc)
 
 -- a bunch, part by part
 pub bunch_length : (version : Version) (b : Bunch) → length (bunch_bits version b)

@@ -1,6 +1,6 @@
 use Rattle.std.proofs.Common.{sym}
 use Rattle.protocol_laws.proofs.FieldLengths.{channel_13, channel_14, packed_8, packed_16, packed_24}
-use Rattle.packet_codec.proofs.bits.channel_width.Goals as goal
+use Rattle.packet_codec.proofs.sizes.channel_width.Goals as goal
 
 pub returns-then-channel-lt2048-clause-width : goal.returns-then-channel-lt2048-clause-width
 returns-then-channel-lt2048-clause-width c = rw c.in-One.is (sym (channel_14 c.args.channel c.if-channel-lt2048.true))

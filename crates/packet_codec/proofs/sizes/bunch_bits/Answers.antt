@@ -1,8 +1,8 @@
 use Rattle.std.proofs.Common.{arith}
 use Rattle.packet_codec.specs.Values.{bunch_of}
 use Rattle.protocol_laws.proofs.FieldLengths.{bunch_length, one_length, two_length}
-use Rattle.packet_codec.proofs.bits.bunch_bits.Goals as goal
-use Rattle.packet_codec.proofs.bits.bunch_bits.Goals.{in-One, in-Two}
+use Rattle.packet_codec.proofs.sizes.bunch_bits.Goals as goal
+use Rattle.packet_codec.proofs.sizes.bunch_bits.Goals.{in-One, in-Two}
 
 pub returns : goal.returns
 returns c =

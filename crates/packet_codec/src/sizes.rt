@@ -1,11 +1,15 @@
 // How many bits the spellings take.
-ghost use Rattle.std.specs.Prelude.{◌≡◌, ◌<◌, ◌^◌, ℕ, Bool, IsTrue, length};
-ghost use Rattle.protocol_model.specs.Packet.{rec_bits, Sends, is_bunch, channel_bits, channel_limit};
-ghost use Rattle.packet_codec.specs.Values.{bunch_of};
+ghost use Rattle.std.specs.Prelude.{◌≡◌, ◌<◌, ◌≤◌, ◌*◌, ◌^◌, ℕ, Bool, IsTrue, length};
+ghost use Rattle.protocol_model.specs.Limits.{packet_bytes};
+ghost use Rattle.protocol_model.specs.Packet.{rec_bits, Sends, is_rec, is_bunch, channel_bits, channel_limit};
+ghost use Rattle.packet_codec.specs.Values.{bunch_of, rec_of, are_recs, recs_bits};
 ghost use Rattle.protocol_laws.specs.Parts.{control_bits, numbered_bits};
 
-use crate::packet::Bunch;
+use crate::packet::{Bunch, Rec};
 use protocol_model::{Part, Version};
+
+/// The bits of an acknowledgement, with the bit before it.
+const ACK_BITS: usize = 15;
 
 /// The bits of the flags after the channel.
 const STANDING_BITS: usize = 3;
@@ -32,10 +36,35 @@ pub fn bunch_bits(version: Version, b: &Bunch) -> usize
     mark + header + b.payload.len()
 }
 
+/// How many bits the entry takes, which has a spelling in that version.
+fn entry_bits(version: Version, r: &Rec) -> usize
+    requires { IsTrue (is_rec version (rec_of r.now)) }
+    ensures { result ≡ length (rec_bits version (rec_of r.now)) }
+{
+    match r {
+        Rec::Ack(_) => ACK_BITS,
+        Rec::Bunch(bunch) => bunch_bits(version, bunch),
+    }
+}
+
+/// How many bits the entries take, which have spellings in that version that fit a packet.
+pub(crate) fn entries_bits(version: Version, recs: &[Rec]) -> usize
+    requires recs { IsTrue (are_recs version recs.now) }
+    requires few { length (recs_bits version recs.now) ≤ 8 * packet_bytes }
+    ensures { result ≡ length (recs_bits version recs.now) }
+{
+    let mut bits = 0;
+    for rec in recs {
+        bits += entry_bits(version, rec);
+    }
+    bits
+}
+
 /// How many bits the flags before the channel take.
 #[tactic(auto, using(protocol_laws::proofs::FieldLengths::control_length))]
 fn control_width(opens: bool, closes: bool) -> usize
-    ensures width { (sleeps reliable : Bool) → result ≡ length (control_bits opens closes sleeps reliable) }
+    ensures width { (sleeps reliable : Bool)
+        → result ≡ length (control_bits opens closes sleeps reliable) }
     ensures most { result < 2 ^ 8 }
 {
     let flags = if opens || closes { 5 } else { 3 };
