@@ -1,7 +1,7 @@
-use Rattle.std.proofs.Common.{◌≡◌, ◌+◌, ◌∙◌, ap, arith, length, get_or, take}
+use Rattle.std.proofs.Common.{◌≡◌, ◌∙◌, ap, arith, length, get_or}
 use Rattle.std.proofs.lemmas.List.Folds.{length-flat_map-take}
 use Rattle.protocol_model.specs.Packet.{rec_bits, is_rec}
-use Rattle.packet_codec.specs.Values.{rec_of, recs_bits}
+use Rattle.packet_codec.specs.Values.{rec_of}
 use Rattle.packet_codec.specs.declared.packet.Rec.{Rec}
 use Rattle.packet_codec.proofs.Puts.{list_all-get, length_more}
 use Rattle.packet_codec.proofs.sizes.entries_bits.Goals as goal

@@ -1,5 +1,3 @@
-use Rattle.std.proofs.Common.{arith}
-use Rattle.protocol_model.specs.declared.Version.{Version}
 use Rattle.protocol_laws.proofs.FieldLengths.{ack_length}
 use Rattle.packet_codec.proofs.sizes.entry_bits.Goals as goal
 
