@@ -1,4 +1,5 @@
--- Change lists: which values of an actor differed from the sample before, and when.
+-- Change lists: which values of an actor differed from the sample before, and when that was last noted.
+-- A list of samples stands for one actor, the newest first.
 use Rattle.std.specs.Prelude.{ℕ, ◌+◌, List, [], ◌∷◌, length, Bool, true, not, ◌&&◌, nat_lt, Option, None, filter_map, slice_get, unwrap_or, option_map, if◌then◌else◌, ℤ, pos}
 use Rattle.std.specs.Bool.{then_some}
 use Rattle.std.specs.List.{range_with_len}
@@ -10,6 +11,7 @@ pub record Sample : Type 0 where
   pub tick : ℕ
   pub values : List ℤ
 
+-- the i-th value of a sample, counted from 0
 abbrev pub sampled_value : Sample → (i : ℕ) → ℤ
 sampled_value s i = unwrap_or (slice_get s.values i) (pos 0)
 
@@ -21,7 +23,8 @@ is_noted s (before ∷ samples) i = not (int_eq (sampled_value s i) (sampled_val
 -- the newest tick above this one at which the i-th value was noted; the newest sample stands first
 abbrev pub noted_tick : List Sample → (tick i : ℕ) → Option ℕ
 noted_tick [] tick i = None
-noted_tick (s ∷ samples) tick i = or_else (then_some (nat_lt tick s.tick && is_noted s samples i) s.tick) (noted_tick samples tick i)
+noted_tick (s ∷ samples) tick i =
+    or_else (then_some (nat_lt tick s.tick && is_noted s samples i) s.tick) (noted_tick samples tick i)
 
 -- the handle of the i-th value: the role's is left out
 abbrev pub handle_of : ℕ → ℕ
@@ -32,9 +35,12 @@ pub record Change : Type 0 where
   pub handle : ℕ
   pub tick : ℕ
 
+-- the i-th value's handle, if it was noted above the tick
 abbrev pub change_of : List Sample → (tick i : ℕ) → Option Change
-change_of samples tick i = option_map (λ (noted : ℕ). record { handle = handle_of i; tick = noted }) (noted_tick samples tick i)
+change_of samples tick i =
+    option_map (λ (noted : ℕ). record { handle = handle_of i; tick = noted }) (noted_tick samples tick i)
 
+-- how many values the newest sample has
 abbrev pub value_count : List Sample → ℕ
 value_count [] = 0
 value_count (s ∷ samples) = length s.values

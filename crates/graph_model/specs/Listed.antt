@@ -1,4 +1,4 @@
--- Which actors the nodes list for a player, and how many.
+-- Which actors the nodes together list for a player, and how many: what a tick looks at for one connection.
 use Rattle.std.specs.Prelude.{ℕ, Bool, true, ◌&&◌, ◌||◌, count_by}
 use Rattle.protocol_model.specs.Value.{Table}
 use Rattle.protocol_model.specs.declared.Reach.{Reach}

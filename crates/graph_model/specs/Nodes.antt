@@ -1,4 +1,5 @@
 -- The nodes of the Replication Graph: which spots each holds for a world, and which viewers it admits.
+-- Together they admit each viewer to whom the actor is relevant, and others, since cells are coarser than distances.
 use Rattle.std.specs.Prelude.{ℕ, ◌==◌, Bool, true, false, not, ◌&&◌, ◌||◌, nat_le, ℤ, pos, int_le, ◌+ℤ◌, ◌-ℤ◌}
 use Rattle.std.specs.Int.{int_div_euclid}
 use Rattle.protocol_model.specs.Value.{Table, is_always, is_owner_only}
@@ -15,7 +16,7 @@ abbrev pub touches : (cull : ℕ) → (v viewer : ℤ) → Bool
 touches cull v viewer =
     int_le (cell_of (v -ℤ pos cull)) (cell_of viewer) && int_le (cell_of viewer) (cell_of (v +ℤ pos cull))
 
--- the rows of the table, in its order
+-- the nodes: near actors by cells, those relevant to all, a player's own and added ones, sleeping ones, a team's
 pub data Node : Type 0 where
   GridNode : Node
   AlwaysNode : Node
@@ -32,6 +33,7 @@ pub record Spot : Type 0 where
   pub player : ℕ
   pub team : ℕ
 
+-- where a player looks from, and its team
 pub record Viewer : Type 0 where
   pub player : ℕ
   pub x : ℤ

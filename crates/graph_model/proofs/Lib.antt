@@ -1,0 +1,3 @@
+mod Distances
+mod Relevant
+mod Examples
