@@ -1,4 +1,6 @@
--- What holds after every prefix of a script's lines, for a player whose datagrams were not forged.
+-- What is promised after every prefix of a script's lines, for a player whose datagrams were not forged: calls are
+-- handed over as prefixes of those queued, and each settled actor's copy is the actor as the player sees it.
+-- `Holds` is meant for tables that a file gives and lines that a script reads; of other lists it may be false.
 use Rattle.std.specs.Prelude.{◌≡◌, ℕ, ◌==◌, List, ◌∷◌, ◌++◌, Bool, false, not, Some, IsTrue}
 use Rattle.std.specs.List.{list_any}
 use Rattle.protocol_model.specs.Value.{Table}

@@ -1,4 +1,4 @@
--- How many values a tick samples, for all connections together.
+-- How many values a tick samples: each actor that some living connection needs is sampled once, for all together.
 use Rattle.std.specs.Prelude.{ℕ, ◌-◌, List, Bool, not, ◌&&◌, sum_by, filter}
 use Rattle.std.specs.List.{list_any}
 use Rattle.protocol_model.specs.Value.{Table, handle_count}

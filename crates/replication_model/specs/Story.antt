@@ -1,4 +1,5 @@
--- What the lines of a script do: edits of the world, and events of each player's two ends.
+-- What the lines of a script do, and what each tells: edits of the world, and events of each player's two ends.
+-- The feeds alone say what the ends do: packets, verdicts, answers and copies are asked of their pasts.
 use Rattle.std.specs.Prelude.{ℕ, ◌+◌, ◌-◌, ◌*◌, ◌%◌, ◌==◌, List, [], ◌∷◌, ◌++◌, map, length, drop, Bool, not, ◌&&◌, ◌||◌, nat_lt, Option, Some, None, find, filter, filter_map, option_map, unwrap_or, slice_get, if◌then◌else◌, ℤ}
 use Rattle.std.specs.List.{flat_map, fold, range_with_len}
 use Rattle.protocol_model.specs.Limits.{late_distance}
@@ -23,8 +24,9 @@ use Rattle.protocol_model.specs.Search.{insert_in_order}
 use Rattle.script_model.specs.Lines.{Line, Join, ApplyEdit, TickAll, TickClient, Deliver, DeliverNew, CallTo, CallAll, Dump, AskSettled, Forge}
 use Rattle.script_model.specs.Reports.{Says, Absent, Late, Report, Joined, Actor, Sent, Stalled, Handed, Answered, Forged, Called, Copies, Copy, Settled}
 
--- a player who joined: the feeds of the server's and of the client's end, the newest event first,
--- and how many packets had been sent to each at its last delivery of new ones
+-- a player who joined: the feeds of the server's and of the client's end, the newest event first, and how many
+-- packets had been sent to each when the last line of this player delivered new ones there (`upnew` to the server,
+-- `downnew` to the client), 0 before the first such line
 pub record Player : Type 0 where
   pub number : ℕ
   pub budget : ℕ
@@ -73,8 +75,6 @@ abbrev pub other_side : Side → Side
 other_side AtServer = AtClient
 other_side AtClient = AtServer
 
--- ---- what a line tells
-
 -- ---- ticks
 
 -- the actors that a tick's sight had as relevant
@@ -91,17 +91,17 @@ abbrev pub tick_event : Table → Edits → Side → Player → Event
 tick_event table edits AtServer p = Tick (sight table edits p.number (earlier_of p))
 tick_event table edits AtClient p = Tick []
 
--- packets with their numbers
+-- packets with their numbers, the first of them n; an end numbers its packets from 1
 abbrev pub numbered_from : Side → (player number : ℕ) → List (List ℕ) → List Report
 numbered_from side player n [] = []
 numbered_from side player n (bytes ∷ packets) =
     Sent side player n bytes ∷ numbered_from side player (n + 1) packets
 
--- of so many packets before, those that came after them
+-- the packets after the first `count`, numbered on
 abbrev pub sent_reports : Side → (player count : ℕ) → List (List ℕ) → List Report
 sent_reports side player count out = numbered_from side player (count + 1) (drop count out)
 
--- the end stalled in this tick
+-- the end stalled in this tick: it was alive before, and isn't any more
 abbrev pub stalled_report : Side → (player : ℕ) → (before after : Past) → List Report
 stalled_report side player before after =
     if not (has_ended before) && has_ended after then Stalled side player ∷ [] else []
@@ -145,12 +145,13 @@ after_datagram table edits side report bytes p =
       handed_reports edits side p.number end past bytes ++ report (verdict_of end past bytes) ∷ [],
     )
 
--- a packet that wasn't sent is absent, one more than 8,192 below the last taken number late; neither is
--- delivered
+-- a packet that wasn't sent is absent, and one more than the late distance below the greatest number taken is late;
+-- neither is delivered
 abbrev pub after_delivery : Table → Edits → Side → (number : ℕ) → Player → Reported
 after_delivery table edits side k p = elim (slice_get (out_at table (other_side side) p) (k - 1)) [
   | None ↦ (p, Answered side p.number k Absent ∷ [])
-  | Some bytes ↦ (if nat_lt (k + late_distance) (top_of (past_at table side p)) then (p, Answered side p.number k Late ∷ [])
+  | Some bytes ↦ (if nat_lt (k + late_distance) (top_of (past_at table side p))
+      then (p, Answered side p.number k Late ∷ [])
       else after_datagram table edits side (λ verdict. Answered side p.number k (Says verdict)) bytes p)
 ]
 
@@ -164,12 +165,12 @@ abbrev pub told_before : Side → Player → ℕ
 told_before AtServer p = p.told_server
 told_before AtClient p = p.told_client
 
--- these many packets were there at the last delivery of new ones
+-- `count` packets were there at the last delivery of new ones
 abbrev pub with_told : Side → (count : ℕ) → Player → Player
 with_told AtServer count p = record p { told_server = count }
 with_told AtClient count p = record p { told_client = count }
 
--- the packet's number isn't such a multiple; 0 loses none
+-- the packet's number is no multiple of `every`, or `every` is 0, which loses none
 abbrev pub is_kept : (every number : ℕ) → Bool
 is_kept every k = every == 0 || not (k % every == 0)
 
@@ -189,7 +190,10 @@ after_forgery table edits side bytes p = after_datagram table edits side (Forged
 -- a call at one end
 abbrev pub after_call_of : Table → Side → (actor number : ℕ) → List Arg → Player → Reported
 after_call_of table side a n args p =
-    (with_event side (Event.Call a n args) p, Called side p.number (answer_of side (past_at table side p) a n args) ∷ [])
+    (
+      with_event side (Event.Call a n args) p,
+      Called side p.number (answer_of side (past_at table side p) a n args) ∷ [],
+    )
 
 -- whether the actor is settled for the player
 abbrev pub settled_answer : Table → Edits → (actor : ℕ) → Player → Reported

@@ -1,4 +1,5 @@
--- The text of what the lines of a script tell.
+-- The text that a replay of a script must write: what its lines tell, one after another.
+-- A script with a bad line has no transcript.
 use Rattle.std.specs.Prelude.{ℕ, List, false, Result, Ok, Err}
 use Rattle.std.specs.List.{flat_map}
 use Rattle.protocol_model.specs.declared.LineWhy.{LineWhy}

@@ -1,4 +1,4 @@
--- Lines of a script that were read.
+-- The lines of a script that were read, by what they do.
 use Rattle.std.specs.Prelude.{ℕ, List}
 use Rattle.protocol_model.specs.declared.Version.{Version}
 use Rattle.protocol_model.specs.Value.{Arg}

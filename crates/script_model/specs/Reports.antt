@@ -1,4 +1,4 @@
--- What the lines of a script tell, and its text.
+-- What the lines of a script tell, and how each report is written in a transcript.
 use Rattle.std.specs.Prelude.{ℕ, ◌+◌, ◌/◌, ◌%◌, List, [], ◌∷◌, ◌++◌, map, Bool, nat_lt, Option, Some, None, if◌then◌else◌, ℤ, codes, decimal}
 use Rattle.std.specs.Fmt.{signed_decimal}
 use Rattle.std.specs.List.{flat_map, join_with_byte}

@@ -1,4 +1,4 @@
--- The lines of a script as they are spelled.
+-- The lines of a script as they are spelled: a word, and fields of the right shape between single spaces.
 use Rattle.std.specs.Prelude.{ℕ, zero, suc, ◌+◌, ◌-◌, ◌*◌, ◌==◌, List, [], ◌∷◌, length, Bool, true, false, not, ◌&&◌, nat_le, Option, Some, None, option_map, option_and_then, if◌then◌else◌, ℤ, pos, negsuc, codes}
 use Rattle.std.specs.List.{list_all}
 use Rattle.std.specs.Str.{bytes_eq}
@@ -109,6 +109,7 @@ pub data Spelled : Type 0 where
   Forge : (to : Side) (player : ℤ) (bytes : List ℕ) → Spelled
 
 infixl 10 ◌>>=◌
+-- the second reading, of what the first one gives
 abbrev pub ◌>>=◌ : {A B : Type 0} → Option A → (A → Option B) → Option B
 x >>= f = option_and_then f x
 
@@ -128,7 +129,7 @@ datagram_of text = do
   bytes ← octets_of text
   then_some (nat_le (length bytes) 2048) bytes
 
--- these many numbers, and nothing else
+-- a line of one number
 abbrev pub one_number : (ℤ → Spelled) → List Text → Option Spelled
 one_number make (a ∷ []) = do
   a ← number_of a

@@ -1,4 +1,4 @@
--- Which lines may follow those before, and why a line is refused.
+-- Which lines may follow those before, why a line is refused, and so which bytes are a script and what it reads as.
 use Rattle.std.specs.Prelude.{◌≡◌, ℕ, ◌+◌, ◌-◌, ◌*◌, ◌^◌, ◌==◌, List, [], ◌∷◌, ◌++◌, length, Bool, true, false, not, ◌&&◌, nat_lt, nat_le, Option, Some, None, is_some, is_none, option_map, option_to_list, unwrap_or, position, Result, Ok, Err, if◌then◌else◌, ℤ, pos, negsuc, int_le}
 use Rattle.std.specs.List.{list_all}
 use Rattle.std.specs.Str.{bytes_eq}
@@ -131,7 +131,7 @@ abbrev pub handle_named : Class → Text → Option ℕ
 handle_named class name =
     option_map (λ n. n + 1) (position (λ (p : Prop). bytes_eq p.name name) (props_of class))
 
--- the number of the call of that name with so many arguments
+-- the number of the call of that name with `count` arguments
 abbrev pub call_named : Class → Text → (count : ℕ) → Option ℕ
 call_named class name count =
     option_map (λ n. n + 1)
@@ -190,7 +190,7 @@ scalar_of kind text = do
   v ← number_of text
   then_some (fits kind v) (Scalar v)
 
--- at most so many bytes
+-- at most `most` bytes
 abbrev pub octets_arg : ℕ → Text → Option Arg
 octets_arg most text = do
   bytes ← octets_of text
@@ -242,13 +242,13 @@ is_live (AskSettled player actor) = false
 is_live (Forge side player bytes) = false
 is_live line = true
 
--- it is the 65th join, or the 8,193rd spawn
+-- as many players joined, or actors were spawned, as may
 abbrev pub is_past_last : Before → Spelled → Bool
 is_past_last before (Join version player budget) = nat_le connection_limit (length before.joined)
 is_past_last before (Spawn class x y) = nat_le spawn_limit (spawn_count before.edits)
 is_past_last before line = false
 
--- the first reason that holds against the line
+-- the first reason that holds against the line; the order of the reasons is part of the format
 abbrev pub refusal_of : Table → (live : Bool) → Before → Spelled → Option LineWhy
 refusal_of table live before line =
     if live && not (is_live line) then Some Place
@@ -258,7 +258,8 @@ refusal_of table live before line =
     else if not (if_there (λ name. is_some (class_named table name)) (class_in line)) then Some NoClass
     else if not (if_there (is_actor before.edits) (actor_in line)) then Some NoActor
     else if is_none (named_in table before line) then Some NoName
-    else if not (if_there (λ (call : Call). goes_right line call.way) (call_in table before line)) then Some LineWhy.Kind
+    else if not (if_there (λ (call : Call). goes_right line call.way) (call_in table before line))
+    then Some LineWhy.Kind
     else if not (has_value table before line) then Some LineWhy.Value
     else if is_past_last before line then Some Full
     else None
@@ -357,7 +358,8 @@ lines_from table live before n [] = Ok []
 lines_from table live before n (text ∷ texts) = elim (reading_of table live before text) [
   | Err why ↦ Err (n, why)
   | Ok None ↦ lines_from table live before (n + 1) texts
-  | Ok (Some line) ↦ cons_ok (line_of table before line) (lines_from table live (after_spelled table before line) (n + 1) texts)
+  | Ok (Some line) ↦ cons_ok (line_of table before line)
+      (lines_from table live (after_spelled table before line) (n + 1) texts)
 ]
 
 -- the lines of a script, or its first bad line with the first reason
