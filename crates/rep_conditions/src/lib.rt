@@ -1,8 +1,25 @@
 // When a property goes to a connection: with an actor's open, and with its updates.
 //
+//                      with the open            with an update
+//                      owner    others          owner    others
+//     Always           yes      yes             yes      yes
+//     InitialOnly      yes      yes             no       no
+//     OwnerOnly        yes      no              yes      no
+//     SkipOwner        no       yes             no       yes
+//     InitialOrOwner   yes      yes             yes      no
+//     Custom           as the actor's switch for the property stands
+//
 // It stands on `protocol_model` for the table of conditions, after Unreal's `ELifetimeCondition`,
 // and hands its `Cond` on. It promises exactly that table. It knows no property's value, and nothing
 // of when an open or an update is sent.
+//
+// A caller picks what an open holds:
+//
+//     for (handle, prop) in class.props().enumerate() {
+//         if visible(prop.cond, owns, actor.is_on(handle)) {
+//             open.push(handle, actor.value(handle))?;
+//         }
+//     }
 #![tactic(auto)]
 
 ghost use Rattle.std.specs.Prelude.{◌≡◌, true, false};

@@ -1,5 +1,6 @@
 -- Worked scripts whose whole transcripts the checker computes: forged datagrams.
-use Rattle.std.specs.Prelude.{◌≡◌, refl, List, [], ◌∷◌, ◌++◌, pos, negsuc, codes}
+use Rattle.std.specs.Prelude.{◌≡◌, refl, ℕ, List, [], ◌∷◌, ◌++◌, map, take, pos, negsuc, codes}
+use Rattle.std.specs.List.{range_with_len}
 use Rattle.std.specs.Fmt.{digits as decimal_digits}
 use Rattle.protocol_model.specs.Numbers.{leading_groups}
 use Rattle.protocol_model.specs.Bits.{int_width, digits, packed_in, bytes_in}
@@ -10,6 +11,7 @@ use Rattle.script_model.specs.Lines.{Line, Join, ApplyEdit, TickAll, Deliver, Fo
 use Rattle.replication_model.specs.Transcript.{transcript}
 use Rattle.protocol_model.specs.BuiltIn.{built_in_table, pawn, flag, purse}
 use Rattle.replication_model.proofs.Tables.{lamp_table}
+use Rattle.replication_model.proofs.Shorthand.{datagram}
 
 held_twice-lines : List Line
 held_twice-lines =
@@ -18,23 +20,29 @@ held_twice-lines =
     ∷ ApplyEdit (Own 2 1)
     ∷ TickAll
     ∷ Deliver AtClient 1 1
-    ∷ Forge AtClient 1 (2 ∷ 0 ∷ 6 ∷ 0 ∷ 24 ∷ 64 ∷ 25 ∷ 32 ∷ 1 ∷ 65 ∷ 64 ∷ [])
-    ∷ Forge AtClient 1 (3 ∷ 0 ∷ 6 ∷ 0 ∷ 24 ∷ 64 ∷ 25 ∷ 32 ∷ 1 ∷ 129 ∷ 64 ∷ [])
-    ∷ Forge AtClient 1 (4 ∷ 0 ∷ 6 ∷ 0 ∷ 16 ∷ 64 ∷ 25 ∷ 32 ∷ 1 ∷ 1 ∷ 64 ∷ [])
+    ∷ Forge AtClient 1 (datagram (codes "0200060018401920014140"))
+    ∷ Forge AtClient 1 (datagram (codes "0300060018401920018140"))
+    ∷ Forge AtClient 1 (datagram (codes "0400060010401920010140"))
     ∷ []
 
 held_twice : transcript built_in_table held_twice-lines ≡
     codes "joined 1\n"
     ++ codes "actor 1\n"
-    ++ codes "sent 1 1 0180190024009d04020300e228acad4cc180800abb73235010000000002000000000308840a600000000c00040\n"
+    ++ codes "sent 1 1 0180190024009d04020300e228acad4cc180800abb73235010000000002000000000308840a"
+    ++ codes "600000000c00040\n"
     ++ codes "down 1 1 taken\n"
     ++ codes "cforge 1 taken\n"
     ++ codes "cforge 1 taken\n"
     ++ codes "chanded 1 1 hurt run 0\n"
     ++ codes "chanded 1 1 hurt run 1\n"
     ++ codes "cforge 1 taken\n"
-unfolding held_twice-lines pawn flag purse lamp_table decimal_digits digits packed_in bytes_in int_width leading_groups
+unfolding held_twice-lines pawn flag purse lamp_table decimal_digits digits packed_in bytes_in int_width leading_groups datagram
 held_twice = refl
+
+-- all but the last byte of the packet that the server sends here; each prefix of it is delivered
+cut_packet : List ℕ
+cut_packet =
+    datagram (codes "0180190024009d04020300e228acad4cc180800abb732350105000000020e8ffffff3780b0c4800300000000")
 
 cut_packets-lines : List Line
 cut_packets-lines =
@@ -42,51 +50,8 @@ cut_packets-lines =
     ∷ ApplyEdit (Spawn 0 (pos 10) (negsuc 2))
     ∷ ApplyEdit (Set 2 4 (pos 75))
     ∷ TickAll
-    ∷ Forge AtClient 1 (1 ∷ [])
-    ∷ Forge AtClient 1 (1 ∷ 128 ∷ [])
-    ∷ Forge AtClient 1 (1 ∷ 128 ∷ 25 ∷ [])
-    ∷ Forge AtClient 1 (1 ∷ 128 ∷ 25 ∷ 0 ∷ [])
-    ∷ Forge AtClient 1 (1 ∷ 128 ∷ 25 ∷ 0 ∷ 36 ∷ [])
-    ∷ Forge AtClient 1 (1 ∷ 128 ∷ 25 ∷ 0 ∷ 36 ∷ 0 ∷ [])
-    ∷ Forge AtClient 1 (1 ∷ 128 ∷ 25 ∷ 0 ∷ 36 ∷ 0 ∷ 157 ∷ [])
-    ∷ Forge AtClient 1 (1 ∷ 128 ∷ 25 ∷ 0 ∷ 36 ∷ 0 ∷ 157 ∷ 4 ∷ [])
-    ∷ Forge AtClient 1 (1 ∷ 128 ∷ 25 ∷ 0 ∷ 36 ∷ 0 ∷ 157 ∷ 4 ∷ 2 ∷ [])
-    ∷ Forge AtClient 1 (1 ∷ 128 ∷ 25 ∷ 0 ∷ 36 ∷ 0 ∷ 157 ∷ 4 ∷ 2 ∷ 3 ∷ [])
-    ∷ Forge AtClient 1 (1 ∷ 128 ∷ 25 ∷ 0 ∷ 36 ∷ 0 ∷ 157 ∷ 4 ∷ 2 ∷ 3 ∷ 0 ∷ [])
-    ∷ Forge AtClient 1 (1 ∷ 128 ∷ 25 ∷ 0 ∷ 36 ∷ 0 ∷ 157 ∷ 4 ∷ 2 ∷ 3 ∷ 0 ∷ 226 ∷ [])
-    ∷ Forge AtClient 1 (1 ∷ 128 ∷ 25 ∷ 0 ∷ 36 ∷ 0 ∷ 157 ∷ 4 ∷ 2 ∷ 3 ∷ 0 ∷ 226 ∷ 40 ∷ [])
-    ∷ Forge AtClient 1 (1 ∷ 128 ∷ 25 ∷ 0 ∷ 36 ∷ 0 ∷ 157 ∷ 4 ∷ 2 ∷ 3 ∷ 0 ∷ 226 ∷ 40 ∷ 172 ∷ [])
-    ∷ Forge AtClient 1 (1 ∷ 128 ∷ 25 ∷ 0 ∷ 36 ∷ 0 ∷ 157 ∷ 4 ∷ 2 ∷ 3 ∷ 0 ∷ 226 ∷ 40 ∷ 172 ∷ 173 ∷ [])
-    ∷ Forge AtClient 1 (1 ∷ 128 ∷ 25 ∷ 0 ∷ 36 ∷ 0 ∷ 157 ∷ 4 ∷ 2 ∷ 3 ∷ 0 ∷ 226 ∷ 40 ∷ 172 ∷ 173 ∷ 76 ∷ [])
-    ∷ Forge AtClient 1 (1 ∷ 128 ∷ 25 ∷ 0 ∷ 36 ∷ 0 ∷ 157 ∷ 4 ∷ 2 ∷ 3 ∷ 0 ∷ 226 ∷ 40 ∷ 172 ∷ 173 ∷ 76 ∷ 193 ∷ [])
-    ∷ Forge AtClient 1 (1 ∷ 128 ∷ 25 ∷ 0 ∷ 36 ∷ 0 ∷ 157 ∷ 4 ∷ 2 ∷ 3 ∷ 0 ∷ 226 ∷ 40 ∷ 172 ∷ 173 ∷ 76 ∷ 193 ∷ 128 ∷ [])
-    ∷ Forge AtClient 1 (1 ∷ 128 ∷ 25 ∷ 0 ∷ 36 ∷ 0 ∷ 157 ∷ 4 ∷ 2 ∷ 3 ∷ 0 ∷ 226 ∷ 40 ∷ 172 ∷ 173 ∷ 76 ∷ 193 ∷ 128 ∷ 128 ∷ [])
-    ∷ Forge AtClient 1 (1 ∷ 128 ∷ 25 ∷ 0 ∷ 36 ∷ 0 ∷ 157 ∷ 4 ∷ 2 ∷ 3 ∷ 0 ∷ 226 ∷ 40 ∷ 172 ∷ 173 ∷ 76 ∷ 193 ∷ 128 ∷ 128 ∷ 10 ∷ [])
-    ∷ Forge AtClient 1 (1 ∷ 128 ∷ 25 ∷ 0 ∷ 36 ∷ 0 ∷ 157 ∷ 4 ∷ 2 ∷ 3 ∷ 0 ∷ 226 ∷ 40 ∷ 172 ∷ 173 ∷ 76 ∷ 193 ∷ 128 ∷ 128 ∷ 10 ∷ 187 ∷ [])
-    ∷ Forge AtClient 1 (1 ∷ 128 ∷ 25 ∷ 0 ∷ 36 ∷ 0 ∷ 157 ∷ 4 ∷ 2 ∷ 3 ∷ 0 ∷ 226 ∷ 40 ∷ 172 ∷ 173 ∷ 76 ∷ 193 ∷ 128 ∷ 128 ∷ 10 ∷ 187 ∷ 115 ∷ [])
-    ∷ Forge AtClient 1 (1 ∷ 128 ∷ 25 ∷ 0 ∷ 36 ∷ 0 ∷ 157 ∷ 4 ∷ 2 ∷ 3 ∷ 0 ∷ 226 ∷ 40 ∷ 172 ∷ 173 ∷ 76 ∷ 193 ∷ 128 ∷ 128 ∷ 10 ∷ 187 ∷ 115 ∷ 35 ∷ [])
-    ∷ Forge AtClient 1 (1 ∷ 128 ∷ 25 ∷ 0 ∷ 36 ∷ 0 ∷ 157 ∷ 4 ∷ 2 ∷ 3 ∷ 0 ∷ 226 ∷ 40 ∷ 172 ∷ 173 ∷ 76 ∷ 193 ∷ 128 ∷ 128 ∷ 10 ∷ 187 ∷ 115 ∷ 35 ∷ 80 ∷ [])
-    ∷ Forge AtClient 1 (1 ∷ 128 ∷ 25 ∷ 0 ∷ 36 ∷ 0 ∷ 157 ∷ 4 ∷ 2 ∷ 3 ∷ 0 ∷ 226 ∷ 40 ∷ 172 ∷ 173 ∷ 76 ∷ 193 ∷ 128 ∷ 128 ∷ 10 ∷ 187 ∷ 115 ∷ 35 ∷ 80 ∷ 16 ∷ [])
-    ∷ Forge AtClient 1 (1 ∷ 128 ∷ 25 ∷ 0 ∷ 36 ∷ 0 ∷ 157 ∷ 4 ∷ 2 ∷ 3 ∷ 0 ∷ 226 ∷ 40 ∷ 172 ∷ 173 ∷ 76 ∷ 193 ∷ 128 ∷ 128 ∷ 10 ∷ 187 ∷ 115 ∷ 35 ∷ 80 ∷ 16 ∷ 80 ∷ [])
-    ∷ Forge AtClient 1 (1 ∷ 128 ∷ 25 ∷ 0 ∷ 36 ∷ 0 ∷ 157 ∷ 4 ∷ 2 ∷ 3 ∷ 0 ∷ 226 ∷ 40 ∷ 172 ∷ 173 ∷ 76 ∷ 193 ∷ 128 ∷ 128 ∷ 10 ∷ 187 ∷ 115 ∷ 35 ∷ 80 ∷ 16 ∷ 80 ∷ 0 ∷ [])
-    ∷ Forge AtClient 1 (1 ∷ 128 ∷ 25 ∷ 0 ∷ 36 ∷ 0 ∷ 157 ∷ 4 ∷ 2 ∷ 3 ∷ 0 ∷ 226 ∷ 40 ∷ 172 ∷ 173 ∷ 76 ∷ 193 ∷ 128 ∷ 128 ∷ 10 ∷ 187 ∷ 115 ∷ 35 ∷ 80 ∷ 16 ∷ 80 ∷ 0 ∷ 0 ∷ [])
-    ∷ Forge AtClient 1 (1 ∷ 128 ∷ 25 ∷ 0 ∷ 36 ∷ 0 ∷ 157 ∷ 4 ∷ 2 ∷ 3 ∷ 0 ∷ 226 ∷ 40 ∷ 172 ∷ 173 ∷ 76 ∷ 193 ∷ 128 ∷ 128 ∷ 10 ∷ 187 ∷ 115 ∷ 35 ∷ 80 ∷ 16 ∷ 80 ∷ 0 ∷ 0 ∷ 0 ∷ [])
-    ∷ Forge AtClient 1 (1 ∷ 128 ∷ 25 ∷ 0 ∷ 36 ∷ 0 ∷ 157 ∷ 4 ∷ 2 ∷ 3 ∷ 0 ∷ 226 ∷ 40 ∷ 172 ∷ 173 ∷ 76 ∷ 193 ∷ 128 ∷ 128 ∷ 10 ∷ 187 ∷ 115 ∷ 35 ∷ 80 ∷ 16 ∷ 80 ∷ 0 ∷ 0 ∷ 0 ∷ 32 ∷ [])
-    ∷ Forge AtClient 1 (1 ∷ 128 ∷ 25 ∷ 0 ∷ 36 ∷ 0 ∷ 157 ∷ 4 ∷ 2 ∷ 3 ∷ 0 ∷ 226 ∷ 40 ∷ 172 ∷ 173 ∷ 76 ∷ 193 ∷ 128 ∷ 128 ∷ 10 ∷ 187 ∷ 115 ∷ 35 ∷ 80 ∷ 16 ∷ 80 ∷ 0 ∷ 0 ∷ 0 ∷ 32 ∷ 232 ∷ [])
-    ∷ Forge AtClient 1 (1 ∷ 128 ∷ 25 ∷ 0 ∷ 36 ∷ 0 ∷ 157 ∷ 4 ∷ 2 ∷ 3 ∷ 0 ∷ 226 ∷ 40 ∷ 172 ∷ 173 ∷ 76 ∷ 193 ∷ 128 ∷ 128 ∷ 10 ∷ 187 ∷ 115 ∷ 35 ∷ 80 ∷ 16 ∷ 80 ∷ 0 ∷ 0 ∷ 0 ∷ 32 ∷ 232 ∷ 255 ∷ [])
-    ∷ Forge AtClient 1 (1 ∷ 128 ∷ 25 ∷ 0 ∷ 36 ∷ 0 ∷ 157 ∷ 4 ∷ 2 ∷ 3 ∷ 0 ∷ 226 ∷ 40 ∷ 172 ∷ 173 ∷ 76 ∷ 193 ∷ 128 ∷ 128 ∷ 10 ∷ 187 ∷ 115 ∷ 35 ∷ 80 ∷ 16 ∷ 80 ∷ 0 ∷ 0 ∷ 0 ∷ 32 ∷ 232 ∷ 255 ∷ 255 ∷ [])
-    ∷ Forge AtClient 1 (1 ∷ 128 ∷ 25 ∷ 0 ∷ 36 ∷ 0 ∷ 157 ∷ 4 ∷ 2 ∷ 3 ∷ 0 ∷ 226 ∷ 40 ∷ 172 ∷ 173 ∷ 76 ∷ 193 ∷ 128 ∷ 128 ∷ 10 ∷ 187 ∷ 115 ∷ 35 ∷ 80 ∷ 16 ∷ 80 ∷ 0 ∷ 0 ∷ 0 ∷ 32 ∷ 232 ∷ 255 ∷ 255 ∷ 255 ∷ [])
-    ∷ Forge AtClient 1 (1 ∷ 128 ∷ 25 ∷ 0 ∷ 36 ∷ 0 ∷ 157 ∷ 4 ∷ 2 ∷ 3 ∷ 0 ∷ 226 ∷ 40 ∷ 172 ∷ 173 ∷ 76 ∷ 193 ∷ 128 ∷ 128 ∷ 10 ∷ 187 ∷ 115 ∷ 35 ∷ 80 ∷ 16 ∷ 80 ∷ 0 ∷ 0 ∷ 0 ∷ 32 ∷ 232 ∷ 255 ∷ 255 ∷ 255 ∷ 55 ∷ [])
-    ∷ Forge AtClient 1 (1 ∷ 128 ∷ 25 ∷ 0 ∷ 36 ∷ 0 ∷ 157 ∷ 4 ∷ 2 ∷ 3 ∷ 0 ∷ 226 ∷ 40 ∷ 172 ∷ 173 ∷ 76 ∷ 193 ∷ 128 ∷ 128 ∷ 10 ∷ 187 ∷ 115 ∷ 35 ∷ 80 ∷ 16 ∷ 80 ∷ 0 ∷ 0 ∷ 0 ∷ 32 ∷ 232 ∷ 255 ∷ 255 ∷ 255 ∷ 55 ∷ 128 ∷ [])
-    ∷ Forge AtClient 1 (1 ∷ 128 ∷ 25 ∷ 0 ∷ 36 ∷ 0 ∷ 157 ∷ 4 ∷ 2 ∷ 3 ∷ 0 ∷ 226 ∷ 40 ∷ 172 ∷ 173 ∷ 76 ∷ 193 ∷ 128 ∷ 128 ∷ 10 ∷ 187 ∷ 115 ∷ 35 ∷ 80 ∷ 16 ∷ 80 ∷ 0 ∷ 0 ∷ 0 ∷ 32 ∷ 232 ∷ 255 ∷ 255 ∷ 255 ∷ 55 ∷ 128 ∷ 176 ∷ [])
-    ∷ Forge AtClient 1 (1 ∷ 128 ∷ 25 ∷ 0 ∷ 36 ∷ 0 ∷ 157 ∷ 4 ∷ 2 ∷ 3 ∷ 0 ∷ 226 ∷ 40 ∷ 172 ∷ 173 ∷ 76 ∷ 193 ∷ 128 ∷ 128 ∷ 10 ∷ 187 ∷ 115 ∷ 35 ∷ 80 ∷ 16 ∷ 80 ∷ 0 ∷ 0 ∷ 0 ∷ 32 ∷ 232 ∷ 255 ∷ 255 ∷ 255 ∷ 55 ∷ 128 ∷ 176 ∷ 196 ∷ [])
-    ∷ Forge AtClient 1 (1 ∷ 128 ∷ 25 ∷ 0 ∷ 36 ∷ 0 ∷ 157 ∷ 4 ∷ 2 ∷ 3 ∷ 0 ∷ 226 ∷ 40 ∷ 172 ∷ 173 ∷ 76 ∷ 193 ∷ 128 ∷ 128 ∷ 10 ∷ 187 ∷ 115 ∷ 35 ∷ 80 ∷ 16 ∷ 80 ∷ 0 ∷ 0 ∷ 0 ∷ 32 ∷ 232 ∷ 255 ∷ 255 ∷ 255 ∷ 55 ∷ 128 ∷ 176 ∷ 196 ∷ 128 ∷ [])
-    ∷ Forge AtClient 1 (1 ∷ 128 ∷ 25 ∷ 0 ∷ 36 ∷ 0 ∷ 157 ∷ 4 ∷ 2 ∷ 3 ∷ 0 ∷ 226 ∷ 40 ∷ 172 ∷ 173 ∷ 76 ∷ 193 ∷ 128 ∷ 128 ∷ 10 ∷ 187 ∷ 115 ∷ 35 ∷ 80 ∷ 16 ∷ 80 ∷ 0 ∷ 0 ∷ 0 ∷ 32 ∷ 232 ∷ 255 ∷ 255 ∷ 255 ∷ 55 ∷ 128 ∷ 176 ∷ 196 ∷ 128 ∷ 3 ∷ [])
-    ∷ Forge AtClient 1 (1 ∷ 128 ∷ 25 ∷ 0 ∷ 36 ∷ 0 ∷ 157 ∷ 4 ∷ 2 ∷ 3 ∷ 0 ∷ 226 ∷ 40 ∷ 172 ∷ 173 ∷ 76 ∷ 193 ∷ 128 ∷ 128 ∷ 10 ∷ 187 ∷ 115 ∷ 35 ∷ 80 ∷ 16 ∷ 80 ∷ 0 ∷ 0 ∷ 0 ∷ 32 ∷ 232 ∷ 255 ∷ 255 ∷ 255 ∷ 55 ∷ 128 ∷ 176 ∷ 196 ∷ 128 ∷ 3 ∷ 0 ∷ [])
-    ∷ Forge AtClient 1 (1 ∷ 128 ∷ 25 ∷ 0 ∷ 36 ∷ 0 ∷ 157 ∷ 4 ∷ 2 ∷ 3 ∷ 0 ∷ 226 ∷ 40 ∷ 172 ∷ 173 ∷ 76 ∷ 193 ∷ 128 ∷ 128 ∷ 10 ∷ 187 ∷ 115 ∷ 35 ∷ 80 ∷ 16 ∷ 80 ∷ 0 ∷ 0 ∷ 0 ∷ 32 ∷ 232 ∷ 255 ∷ 255 ∷ 255 ∷ 55 ∷ 128 ∷ 176 ∷ 196 ∷ 128 ∷ 3 ∷ 0 ∷ 0 ∷ [])
-    ∷ Forge AtClient 1 (1 ∷ 128 ∷ 25 ∷ 0 ∷ 36 ∷ 0 ∷ 157 ∷ 4 ∷ 2 ∷ 3 ∷ 0 ∷ 226 ∷ 40 ∷ 172 ∷ 173 ∷ 76 ∷ 193 ∷ 128 ∷ 128 ∷ 10 ∷ 187 ∷ 115 ∷ 35 ∷ 80 ∷ 16 ∷ 80 ∷ 0 ∷ 0 ∷ 0 ∷ 32 ∷ 232 ∷ 255 ∷ 255 ∷ 255 ∷ 55 ∷ 128 ∷ 176 ∷ 196 ∷ 128 ∷ 3 ∷ 0 ∷ 0 ∷ 0 ∷ [])
-    ∷ Forge AtClient 1 (1 ∷ 128 ∷ 25 ∷ 0 ∷ 36 ∷ 0 ∷ 157 ∷ 4 ∷ 2 ∷ 3 ∷ 0 ∷ 226 ∷ 40 ∷ 172 ∷ 173 ∷ 76 ∷ 193 ∷ 128 ∷ 128 ∷ 10 ∷ 187 ∷ 115 ∷ 35 ∷ 80 ∷ 16 ∷ 80 ∷ 0 ∷ 0 ∷ 0 ∷ 32 ∷ 232 ∷ 255 ∷ 255 ∷ 255 ∷ 55 ∷ 128 ∷ 176 ∷ 196 ∷ 128 ∷ 3 ∷ 0 ∷ 0 ∷ 0 ∷ 0 ∷ [])
-    ∷ Forge AtClient 1 ([])
+    ∷ map (λ n. Forge AtClient 1 (take n cut_packet)) (range_with_len 1 44)
+    ++ Forge AtClient 1 ([])
     ∷ Forge AtClient 1 (0 ∷ 0 ∷ [])
     ∷ Deliver AtClient 1 1
     ∷ Forge AtServer 1 (1 ∷ 192 ∷ 1 ∷ 32 ∷ [])
@@ -96,7 +61,8 @@ cut_packets-lines =
 cut_packets : transcript built_in_table cut_packets-lines ≡
     codes "joined 1\n"
     ++ codes "actor 1\n"
-    ++ codes "sent 1 1 0180190024009d04020300e228acad4cc180800abb732350105000000020e8ffffff3780b0c480030000000040\n"
+    ++ codes "sent 1 1 0180190024009d04020300e228acad4cc180800abb732350105000000020e8ffffff3780b0c"
+    ++ codes "480030000000040\n"
     ++ codes "cforge 1 malformed 0 Short\n"
     ++ codes "cforge 1 malformed 15 Short\n"
     ++ codes "cforge 1 malformed 20 Short\n"
@@ -145,5 +111,5 @@ cut_packets : transcript built_in_table cut_packets-lines ≡
     ++ codes "cforge 1 malformed 8 NoEnd\n"
     ++ codes "down 1 1 taken\n"
     ++ codes "forge 1 closed BadAck 3 1\n"
-unfolding cut_packets-lines pawn flag purse lamp_table decimal_digits digits packed_in bytes_in int_width leading_groups
+unfolding cut_packets-lines cut_packet pawn flag purse lamp_table decimal_digits digits packed_in bytes_in int_width leading_groups datagram
 cut_packets = refl

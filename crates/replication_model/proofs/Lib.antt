@@ -1,5 +1,7 @@
 pub mod Tables
+mod Shorthand
 mod Scripts
+mod Examples
 mod Transcripts
 mod LossTranscripts
 mod ClosingTranscripts

@@ -10,6 +10,7 @@ use Rattle.script_model.specs.Lines.{Line, Join, ApplyEdit, TickAll, TickClient,
 use Rattle.replication_model.specs.Transcript.{transcript}
 use Rattle.protocol_model.specs.BuiltIn.{built_in_table, pawn, flag, purse}
 use Rattle.replication_model.proofs.Tables.{lamp_table}
+use Rattle.replication_model.proofs.Shorthand.{again}
 
 lost_open-lines : List Line
 lost_open-lines =
@@ -20,15 +21,8 @@ lost_open-lines =
     ∷ ApplyEdit (Set 2 4 (pos 2))
     ∷ ApplyEdit (Set 2 4 (pos 3))
     ∷ ApplyEdit (Set 2 4 (pos 10))
-    ∷ TickAll
-    ∷ TickAll
-    ∷ TickAll
-    ∷ TickAll
-    ∷ TickAll
-    ∷ TickAll
-    ∷ TickAll
-    ∷ TickAll
-    ∷ Deliver AtClient 1 2
+    ∷ again 8 (TickAll ∷ [])
+    ++ Deliver AtClient 1 2
     ∷ TickClient 1
     ∷ Deliver AtServer 1 1
     ∷ TickAll
@@ -43,12 +37,14 @@ lost_open-lines =
 lost_open : transcript built_in_table lost_open-lines ≡
     codes "joined 1\n"
     ++ codes "actor 1\n"
-    ++ codes "sent 1 1 0180190024009d04020300e228acad4cc180800abb73235010000000002000000000308040c680030000000040\n"
+    ++ codes "sent 1 1 0180190024009d04020300e228acad4cc180800abb73235010000000002000000000308040c"
+    ++ codes "680030000000040\n"
     ++ codes "sent 1 2 0240\n"
     ++ codes "down 1 2 taken\n"
     ++ codes "csent 1 1 01400120\n"
     ++ codes "up 1 1 taken\n"
-    ++ codes "sent 1 3 03c000c00c0012804e028101007114d656a660404085ddb911280800000000100000000018402063c0010000000020\n"
+    ++ codes "sent 1 3 03c000c00c0012804e028101007114d656a660404085ddb9112808000000001000000000184"
+    ++ codes "02063c0010000000020\n"
     ++ codes "down 1 3 taken\n"
     ++ codes "csent 1 2 02c00120\n"
     ++ codes "up 1 2 taken\n"
@@ -56,7 +52,7 @@ lost_open : transcript built_in_table lost_open-lines ≡
     ++ codes "down 1 4 taken\n"
     ++ codes "copies 1 1\n"
     ++ codes "copy 1 1 Pawn open x=0 y=0 role=0 hp=10 ammo=0 team=0 aim=0\n"
-unfolding lost_open-lines pawn flag purse lamp_table decimal_digits digits packed_in bytes_in int_width leading_groups
+unfolding lost_open-lines pawn flag purse lamp_table decimal_digits digits packed_in bytes_in int_width leading_groups again
 lost_open = refl
 
 lost_open_in_version_two-lines : List Line
@@ -68,15 +64,8 @@ lost_open_in_version_two-lines =
     ∷ ApplyEdit (Set 2 4 (pos 2))
     ∷ ApplyEdit (Set 2 4 (pos 3))
     ∷ ApplyEdit (Set 2 4 (pos 10))
-    ∷ TickAll
-    ∷ TickAll
-    ∷ TickAll
-    ∷ TickAll
-    ∷ TickAll
-    ∷ TickAll
-    ∷ TickAll
-    ∷ TickAll
-    ∷ Deliver AtClient 1 2
+    ∷ again 8 (TickAll ∷ [])
+    ++ Deliver AtClient 1 2
     ∷ TickClient 1
     ∷ Deliver AtServer 1 1
     ∷ TickAll
@@ -91,12 +80,14 @@ lost_open_in_version_two-lines =
 lost_open_in_version_two : transcript built_in_table lost_open_in_version_two-lines ≡
     codes "joined 1\n"
     ++ codes "actor 1\n"
-    ++ codes "sent 1 1 01000000000000802990007412080c0088a3b0b6320503022aecce8d4041000000008000000000c0000219030e000000000001\n"
+    ++ codes "sent 1 1 01000000000000802990007412080c0088a3b0b6320503022aecce8d4041000000008000000"
+    ++ codes "000c0000219030e000000000001\n"
     ++ codes "sent 1 2 0200000000000080\n"
     ++ codes "down 1 2 taken\n"
     ++ codes "csent 1 1 0180008000000080\n"
     ++ codes "up 1 1 taken\n"
-    ++ codes "sent 1 3 03400080000000802990007412080c0088a3b0b6320503022aecce8d4041000000008000000000c0000219030e000000000001\n"
+    ++ codes "sent 1 3 03400080000000802990007412080c0088a3b0b6320503022aecce8d4041000000008000000"
+    ++ codes "000c0000219030e000000000001\n"
     ++ codes "down 1 3 taken\n"
     ++ codes "csent 1 2 02c0008001000080\n"
     ++ codes "up 1 2 taken\n"
@@ -104,7 +95,7 @@ lost_open_in_version_two : transcript built_in_table lost_open_in_version_two-li
     ++ codes "down 1 4 taken\n"
     ++ codes "copies 1 1\n"
     ++ codes "copy 1 1 Pawn open x=0 y=0 role=0 hp=10 ammo=0 team=0 aim=0\n"
-unfolding lost_open_in_version_two-lines pawn flag purse lamp_table decimal_digits digits packed_in bytes_in int_width leading_groups
+unfolding lost_open_in_version_two-lines pawn flag purse lamp_table decimal_digits digits packed_in bytes_in int_width leading_groups again
 lost_open_in_version_two = refl
 
 owner_changes-lines : List Line
@@ -134,8 +125,10 @@ owner_changes : transcript built_in_table owner_changes-lines ≡
     codes "joined 1\n"
     ++ codes "joined 2\n"
     ++ codes "actor 1\n"
-    ++ codes "sent 1 1 0180190024009d04020300e228acad4cc180800abb73235010000000002000000000308840a600000000c00040\n"
-    ++ codes "sent 2 1 0180190024009d04020300e228acad4cc180800abb73235010000000002000000000308040c680030000000040\n"
+    ++ codes "sent 1 1 0180190024009d04020300e228acad4cc180800abb73235010000000002000000000308840a"
+    ++ codes "600000000c00040\n"
+    ++ codes "sent 2 1 0180190024009d04020300e228acad4cc180800abb73235010000000002000000000308040c"
+    ++ codes "680030000000040\n"
     ++ codes "down 1 1 taken\n"
     ++ codes "csent 1 1 01c00020\n"
     ++ codes "up 1 1 taken\n"
@@ -152,5 +145,5 @@ owner_changes : transcript built_in_table owner_changes-lines ≡
     ++ codes "copy 1 1 Pawn open x=0 y=0 role=0 hp=100 ammo=0 team=0 aim=0\n"
     ++ codes "copies 2 1\n"
     ++ codes "copy 2 1 Pawn open x=0 y=0 role=1 hp=100 ammo=9 team=0 aim=0\n"
-unfolding owner_changes-lines pawn flag purse lamp_table decimal_digits digits packed_in bytes_in int_width leading_groups
+unfolding owner_changes-lines pawn flag purse lamp_table decimal_digits digits packed_in bytes_in int_width leading_groups again
 owner_changes = refl

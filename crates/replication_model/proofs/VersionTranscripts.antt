@@ -25,7 +25,8 @@ both_versions-lines =
 both_versions : transcript built_in_table both_versions-lines ≡
     codes "joined 1\n"
     ++ codes "actor 1\n"
-    ++ codes "sent 1 1 01000000000000802990007412080c0088a3b0b6320503022aecce8d4041000000008000000000c0000219030e000000000001\n"
+    ++ codes "sent 1 1 01000000000000802990007412080c0088a3b0b6320503022aecce8d4041000000008000000"
+    ++ codes "000c0000219030e000000000001\n"
     ++ codes "down 1 1 taken\n"
     ++ codes "csent 1 1 0140008000000080\n"
     ++ codes "up 1 1 taken\n"
@@ -53,7 +54,8 @@ teams : transcript built_in_table teams-lines ≡
     codes "joined 1\n"
     ++ codes "joined 2\n"
     ++ codes "actor 1\n"
-    ++ codes "sent 1 1 0180190024009d04020300e228acad4cc180800abb73235010409c00002000000000308040c680030000000040\n"
+    ++ codes "sent 1 1 0180190024009d04020300e228acad4cc180800abb73235010409c00002000000000308040c"
+    ++ codes "680030000000040\n"
     ++ codes "sent 1 2 028032008000020001\n"
 unfolding teams-lines pawn flag purse lamp_table decimal_digits digits packed_in bytes_in int_width leading_groups
 teams = refl

@@ -189,11 +189,10 @@ after_forgery table edits side bytes p = after_datagram table edits side (Forged
 
 -- a call at one end
 abbrev pub after_call_of : Table → Side → (actor number : ℕ) → List Arg → Player → Reported
-after_call_of table side a n args p =
-    (
-      with_event side (Event.Call a n args) p,
-      Called side p.number (answer_of side (past_at table side p) a n args) ∷ [],
-    )
+after_call_of table side a n args p = (
+  with_event side (Event.Call a n args) p,
+  Called side p.number (answer_of side (past_at table side p) a n args) ∷ [],
+)
 
 -- whether the actor is settled for the player
 abbrev pub settled_answer : Table → Edits → (actor : ℕ) → Player → Reported

@@ -1,11 +1,26 @@
 // The definitions of both ends: what a server and its players' clients do over a script's lines, the
 // transcript of it, and what is promised of settled actors and reliable calls.
 //
-//     lines -> story (edits so far; for each player the feeds of both ends) -> reports -> transcript
+//     script ── lines ──▶ story ────────────────────▶ reports ──▶ transcript
+//                         edits of the world
+//                         of each player:
+//                           server's feed ─ past_of ─▶ packets ─┐  delivered by lines,
+//                           client's feed ─ past_of ─▶ packets ─┘  lost, late or forged
 //
-// It has definitions, a law about them and no code. It stands on `connection_model` for each end and on
-// `script_model` for lines and texts. `proofs/` has worked scripts whose whole transcripts the checker
-// computes.
+// It has definitions, laws about them and no code. It stands on `connection_model` for each end and
+// on `script_model` for lines and texts. `proofs/` has worked scripts whose whole transcripts the
+// checker computes; the expected texts were compared with an independent program.
+//
+// It promises that nothing happened before the first line, and that a delivery that loses none
+// delivers each. What it says of settled actors and of calls (`Headline`) is a statement: it is not
+// proved here.
+//
+// A program that replays scripts cites it so:
+//
+//     pub fn replay(script: &[u8], out: &mut Vec<u8>) -> Result<(), ReplayError>
+//         ensures transcript {
+//             OnOk result (replay_of table script.entry ≡ Ok out.new)
+//         }
 #![tactic(auto)]
 
 ghost use Rattle.std.specs.Prelude.{◌≡◌, [], ℕ, true};

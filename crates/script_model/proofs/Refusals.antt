@@ -1,8 +1,9 @@
 -- Scripts that are refused, each with the number of its first bad line and the first reason against it.
-use Rattle.std.specs.Prelude.{◌≡◌, refl, [], true, false, codes, map, Err}
-use Rattle.std.specs.List.{range_with_len}
+use Rattle.std.specs.Prelude.{◌≡◌, refl, [], ◌∷◌, ◌++◌, true, false, codes, decimal, map, Err}
+use Rattle.std.specs.Fmt.{digits as decimal_digits}
+use Rattle.std.specs.List.{range_with_len, flat_map}
 use Rattle.protocol_model.specs.BuiltIn.{built_in_table, pawn, flag, purse}
-use Rattle.protocol_model.specs.declared.LineWhy.TheVariants.{TooLong, Shape, Place, Range, NoPlayer, Taken, NoClass, NoActor, NoName}
+use Rattle.protocol_model.specs.declared.LineWhy.TheVariants.{TooLong, NotText, Full, Shape, Place, Range, NoPlayer, Taken, NoClass, NoActor, NoName}
 use Rattle.protocol_model.specs.declared.LineWhy.TheVariants as LineWhy
 use Rattle.script_model.specs.ScriptRules.{script_of, BadLine}
 
@@ -101,6 +102,16 @@ team_too_large = refl
 own_without_spawn : BadLine built_in_table false (codes "own 1 0") 1 NoActor
 unfolding pawn flag purse
 own_without_spawn = refl
+
+-- a byte that is no ASCII
+not_text : script_of [] false (codes "tick\n" ++ 128 ∷ []) ≡ Err (2, NotText)
+not_text = refl
+
+-- the 65th join
+one_too_many : script_of [] false (flat_map (λ n. codes "join " ++ decimal n ++ codes " 1\n") (range_with_len 1 65))
+    ≡ Err (65, Full)
+unfolding decimal_digits
+one_too_many = refl
 
 -- a line of 16,385 bytes
 too_long : script_of [] false (map (λ n. 35) (range_with_len 0 16385)) ≡ Err (1, TooLong)
