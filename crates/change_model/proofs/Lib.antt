@@ -1,2 +1,3 @@
 mod Noting
+mod Ascending
 mod Examples

@@ -7,9 +7,9 @@
 //     noted    x    x    x    -          noted last in tick 3: due for who was served in tick 2 or before
 //
 // It has definitions, laws about them and no code. It stands on `protocol_model` alone. It promises
-// that a first sample notes each value, that a sample with the same values notes nothing, and that a
-// value that goes back is noted again. It does not say when an actor is sampled, nor which values a
-// connection may see.
+// that a first sample notes each value, that a sample with the same values notes nothing, that a
+// value that goes back is noted again, and that changes ascend by handle. It does not say when an
+// actor is sampled, nor which values a connection may see.
 //
 // A value that keeps the last sample and a tick for each value cites it so:
 //
@@ -17,8 +17,10 @@
 //         ensures { (samples : List Sample) → Keeps self.now samples → result ≡ changes_since samples tick }
 #![tactic(auto)]
 
-ghost use Rattle.std.specs.Prelude.{◌≡◌, ◌∷◌, [], ◌<◌, ℕ, ℤ, List, Some, true, false};
+ghost use Rattle.std.specs.Prelude.{◌≡◌, ◌∷◌, [], ◌<◌, ℕ, ℤ, List, Some, map, true, false};
+ghost use Rattle.std.specs.List.Sorted.{IsStrictlyIncreasing};
 ghost use Rattle.change_model.specs.Changes.{
+  Change,
   Sample,
   sampled_value,
   is_noted,
@@ -33,7 +35,7 @@ pub fn first_samples_note_all()
 {}
 
 /// A sample with the same values notes nothing: of each value the tick noted stays the same.
-#[tactic(auto, using(crate::proofs::Noting::same_is_not_noted, crate::proofs::Noting::same_keeps_tick, crate::proofs::Noting::same_changes,))]
+#[tactic(auto, using(crate::proofs::Noting::same_keeps_tick, crate::proofs::Noting::same_changes))]
 pub fn same_values_note_nothing()
     ensures noted { (now before : Sample) (samples : List Sample) (i : ℕ)
         → sampled_value now i ≡ sampled_value before i
@@ -53,4 +55,11 @@ pub fn other_values_are_noted()
         → is_noted now samples i ≡ true
         → tick < now.tick
         → noted_tick (now ∷ samples) tick i ≡ Some now.tick }
+{}
+
+/// The changes ascend by handle, so that an update holds each handle once.
+#[tactic(auto, using(crate::proofs::Ascending::changes_ascend))]
+pub fn changes_ascend_by_handle()
+    ensures { (samples : List Sample) (tick : ℕ)
+        → IsStrictlyIncreasing (map (λ (c : Change). c.handle) (changes_since samples tick)) }
 {}
