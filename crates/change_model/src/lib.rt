@@ -1,10 +1,10 @@
-// The definitions of change lists: the samples of an actor's values, tick by tick, and which handles
-// differed from the sample before since a given tick. One list serves all connections: each asks for
-// what changed since it was last served, in place of comparing all values.
+// The definitions of change lists: the samples of an actor's values, tick by tick, and which
+// handles differed from the sample before since a given tick. One list serves all connections: each
+// asks for what changed since it was last served, in place of comparing all values.
 //
-//     tick     1    2    3    4          newest first: (4, [1]) ∷ (3, [1]) ∷ (2, [2]) ∷ (1, [1]) ∷ []
-//     value    1    2    1    1
-//     noted    x    x    x    -          noted last in tick 3: due for who was served in tick 2 or before
+//     tick     1    2    3    4
+//     value    1    2    1    1      newest first: (4, [1]) ∷ (3, [1]) ∷ (2, [2]) ∷ (1, [1]) ∷ []
+//     noted    x    x    x    -      due for who was served last in tick 2 or before
 //
 // It has definitions, laws about them and no code. It stands on `protocol_model` alone. It promises
 // that a first sample notes each value, that a sample with the same values notes nothing, that a
@@ -14,7 +14,8 @@
 // A value that keeps the last sample and a tick for each value cites it so:
 //
 //     pub fn since(&self, tick: u64) -> Vec<Change>
-//         ensures { (samples : List Sample) → Keeps self.now samples → result ≡ changes_since samples tick }
+//         ensures { (samples : List Sample)
+//             → Keeps self.now samples → result ≡ changes_since samples tick }
 #![tactic(auto)]
 
 ghost use Rattle.std.specs.Prelude.{◌≡◌, ◌∷◌, [], ◌<◌, ℕ, ℤ, List, Some, map, true, false};
@@ -57,7 +58,7 @@ pub fn other_values_are_noted()
         → noted_tick (now ∷ samples) tick i ≡ Some now.tick }
 {}
 
-/// The changes ascend by handle, so that an update holds each handle once.
+/// The changes ascend by handle: each handle is below the next.
 #[tactic(auto, using(crate::proofs::Ascending::changes_ascend))]
 pub fn changes_ascend_by_handle()
     ensures { (samples : List Sample) (tick : ℕ)

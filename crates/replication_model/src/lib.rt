@@ -1,5 +1,5 @@
-// The definitions of both ends: what a server and its players' clients do over a script's lines, the
-// transcript of it, and what is promised of settled actors and reliable calls.
+// The definitions of both ends: what a server and its players' clients do over a script's lines,
+// the transcript of it, and what is promised of settled actors and reliable calls.
 //
 //     script ── lines ──▶ story ────────────────────▶ reports ──▶ transcript
 //                         edits of the world
@@ -33,7 +33,8 @@ ghost use Rattle.replication_model.specs.Story.{feed_after, is_kept, story_of, f
 pub fn before_all_lines()
     ensures story { (table : Table) → (story_of table []).0 ≡ first_story }
     ensures reports { (table : Table) → (story_of table []).1 ≡ [] }
-    ensures feeds { (table : Table) (side : Side) (player : ℕ) → feed_after table [] side player ≡ [] }
+    ensures feeds { (table : Table) (side : Side) (player : ℕ)
+        → feed_after table [] side player ≡ [] }
 {}
 
 /// A delivery of new packets that loses none delivers each.
