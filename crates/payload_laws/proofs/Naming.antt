@@ -9,7 +9,8 @@ use Rattle.table_model.specs.Rules as Rules
 use Rattle.table_model.specs.Grammar.{table_of}
 use Rattle.connection_model.specs.Names.{path_up, same_names, class_named}
 use Rattle.payload_laws.specs.Limits.{AreSegments}
-use Rattle.payload_laws.specs.Learning.{StandAmong, AreAmong, Knows, KnowsAll, KnowsOthers}
+use Rattle.payload_laws.specs.Accepted.{StandsIn}
+use Rattle.payload_laws.specs.Learning.{StandAmong, AreAmong, Knows, KnowsAll, KnowsOthers, MayLearn}
 use Rattle.payload_laws.proofs.Tests.{left_of, right_of, both, same_of, some_is}
 use Rattle.payload_laws.proofs.TableFacts.{path_segments}
 use Rattle.payload_laws.proofs.Learning.{Learnt, learn_path}
@@ -132,3 +133,19 @@ filter_stands whole test (s ∷ path) h = by_test (test s) (filter_stands whole 
 pub exports_stand : (entries before : List Entry) (e : Entry) (after : List Entry) (test : Segment → Bool) → entries ≡ before ++ e ∷ after → StandAmong (segments_of entries) (filter test e.class.path)
 exports_stand entries before e after test split =
     filter_stands (segments_of entries) test e.class.path (stand_class (segments_of entries) before e after (subst (λ (xs : List Entry). StandAmong (segments_of entries) (segments_of xs)) split (stand_of (segments_of entries) (segments_of entries) (λ n s e. (n, e)))))
+
+-- ---- a class that stands in the table
+
+-- what a client may learn from an open is learnt
+pub may_learn : (entries : List Entry) (names : List Segment) (test : Segment → Bool) (class : Class) → MayLearn entries names test class → Learnt (segments_of entries) names test class.path
+may_learn entries names test class may =
+    let at = may.stands in
+    let room = may.room in
+    subst (λ (c : Class). Learnt (segments_of entries) names test c.path) at.4
+    (class_learnt entries at.0 at.1 at.2 names test may.is_table at.3 may.among (subst (λ (c : Class). KnowsOthers names test c.path) (sym at.4) may.others) (omega (arith, room)))
+
+-- and its path names it
+pub class_is_named_in : (entries : List Entry) (names : List Segment) (class : Class) → IsTable entries → StandsIn entries class → KnowsAll names class.path → class_named (table_of entries) names (class_guid class) ≡ Some class
+class_is_named_in entries names class is at known =
+    subst (λ (c : Class). class_named (table_of entries) names (class_guid c) ≡ Some c) at.4
+    (class_is_named entries at.0 at.1 at.2 names is at.3 (subst (λ (c : Class). KnowsAll names c.path) (sym at.4) known))

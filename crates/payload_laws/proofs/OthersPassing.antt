@@ -11,7 +11,7 @@ use Rattle.connection_model.specs.CallAnswers.{call_class, goes_from, fitting_ca
 use Rattle.connection_model.specs.Items.{update_pairs}
 use Rattle.connection_model.specs.Copies.{copy_class, copy_on}
 use Rattle.payload_laws.specs.Limits.{HasLimits, IsActor, AreValues}
-use Rattle.payload_laws.specs.Passing.{UpdatePasses, CallPasses, comes_to, other_side}
+use Rattle.payload_laws.specs.Passing.{UpdatePasses, CallPasses, comes_to, reading_side}
 use Rattle.payload_laws.proofs.Tests.{left_of, right_of}
 use Rattle.payload_laws.proofs.Updates.{update_some, update_fits}
 use Rattle.payload_laws.proofs.SightSpelling.{due_fit}
@@ -38,12 +38,12 @@ fitting_of : (side : Side) (number : ℕ) (args : List Arg) (class : Class) (cal
 fitting_of side number args class call None e h = absurd (cc)
 fitting_of side number args class call (Some it) e h = fitting_by side number args class call it (goes_from side it.way && args_fit it.args args) e refl h
 
-goes_over : (side : Side) (way : Way) → goes_from side way ≡ true → comes_to (other_side side) way ≡ true
+goes_over : (side : Side) (way : Way) → goes_from side way ≡ true → comes_to (reading_side side) way ≡ true
 goes_over AtServer way h = h
 goes_over AtClient way h = h
 
-pub call_passes : (side : Side) (past : Past) (actor number : ℕ) (call : Call) (args : List Arg) (class : Class) → HasLimits class → IsActor actor → fitting_call side number args class ≡ Some call → call_class (other_side side) past actor ≡ Some class
-    → CallPasses (other_side side) past actor number call args
+pub call_passes : (side : Side) (past : Past) (actor number : ℕ) (call : Call) (args : List Arg) (class : Class) → HasLimits class → IsActor actor → fitting_call side number args class ≡ Some call → call_class (reading_side side) past actor ≡ Some class
+    → CallPasses (reading_side side) past actor number call args
 call_passes side past actor number call args class limits is fits known =
     let f = fitting_of side number args class call (call_at class number) refl fits in
     record { class = class; known = known; limits = limits; is_actor = is; found = f.found; way = goes_over side call.way f.way; all_fit = f.fit }

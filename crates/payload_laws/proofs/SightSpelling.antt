@@ -12,7 +12,7 @@ use Rattle.table_model.specs.Grammar.{table_of}
 use Rattle.connection_model.specs.Feed.{Past}
 use Rattle.connection_model.specs.Carry.{is_updatable, updatable_pairs, is_due_pair, due_pairs}
 use Rattle.payload_laws.specs.Limits.{HasLimits, IsActor, AreValues}
-use Rattle.payload_laws.specs.Accepted.{AreAccepted, StandsIn}
+use Rattle.payload_laws.specs.Accepted.{AreAccepted, StandsIn, IsShown}
 use Rattle.payload_laws.proofs.Tests.{below_of}
 use Rattle.payload_laws.proofs.WorldValues.{same_some, taken, count_more, count_other}
 use Rattle.payload_laws.proofs.SightValues.{actor_sound, visible_fit}
@@ -175,3 +175,7 @@ sight_spells entries edits player earlier n seen is ok h =
     let actor : IsActor r.item = record { even = omega (arith, is_twice); least = omega (arith, is_twice, least); below = omega (arith, is_twice, most, few) } in
     let s : Spawns table edits r.item = subst (λ (a : ℕ). Spawns table edits a) (sym k.is) (spawns table edits k.number ok least (omega (arith, most))) in
     entry_by entries edits player r.item seen (is_relevant table edits player r.item) (not (lives edits r.item) && is_among r.item earlier) is ok actor s r.gives
+
+-- so can what is shown
+pub shown_spells : (entries : List Entry) (edits : Edits) (player : ℕ) (seen : Seen) → IsShown entries edits player seen → CanSpell entries seen
+shown_spells entries edits player seen h = sight_spells entries edits player h.earlier h.place seen h.is_table h.accepted h.there

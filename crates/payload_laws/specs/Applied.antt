@@ -1,4 +1,4 @@
--- One more payload was handed on.
+-- One more payload was handed on, and what of a copy stays.
 use Rattle.std.specs.Prelude.{◌≡◌, ℕ, ◌∷◌}
 use Rattle.connection_model.specs.Feed.{Past, Delivered}
 use Rattle.connection_model.specs.Copies.{delivered_of, copy_class, copy_channel, copy_value}

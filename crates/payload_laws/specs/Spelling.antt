@@ -21,18 +21,22 @@ open_bits exports actor guid class values =
 
 -- each class by which the end may read has kinds and sizes that a table may have
 pub record KnowsLimits (side : Side) (table : Table) (past : Past) : Type 0 where
-  pub named : (names : List Segment) (guid : ℕ) (class : Class) → class_named table names guid ≡ Some class → HasLimits class
-  pub known : (actor : ℕ) (class : Class) → call_class side past actor ≡ Some class → HasLimits class
+  pub named : (names : List Segment) (guid : ℕ) (class : Class)
+      → class_named table names guid ≡ Some class → HasLimits class
+  pub known : (actor : ℕ) (class : Class)
+      → call_class side past actor ≡ Some class → HasLimits class
 
--- the bits are the message's spelling, and the rules let it through; an open may name its class by any guid that
--- the reader knows it by, and a close is of whichever copy holds the channel
+-- the bits are the message's spelling, and the rules let it through; an open may name its class by
+-- any guid that the reader knows it by, and a close is of whichever copy holds the channel
 abbrev pub Spells : Side → Table → Past → (first : Bunch) → List Bool → Message → Type 0
 Spells side table past first bits (Opens exports actor class values) =
     (first.exports ≡ has_exports (Opens exports actor class values))
     × ((guid : ℕ) × (bits ≡ open_bits exports actor guid class values)
     × OpenPasses table past first.channel exports actor guid class values)
 Spells side table past first bits (Closes actor sleeps) =
-    (bits ≡ []) × (actor ≡ unwrap_or (copy_on past first.channel) 0) × (sleeps ≡ first.sleeps)
+    (bits ≡ [])
+    × (actor ≡ unwrap_or (copy_on past first.channel) 0)
+    × (sleeps ≡ first.sleeps)
 Spells side table past first bits (Updates actor class values) =
     (bits ≡ message_bits (Updates actor class values))
     × (first.reliable ≡ false)
