@@ -14,7 +14,8 @@ use Rattle.replication_model.specs.Story.{Player, Story, end_of, feed_of, releva
 use Rattle.payload_laws.proofs.WorldValues.{same_some}
 use Rattle.headline_laws.specs.Sights.{Seeing, shown_by}
 use Rattle.headline_laws.proofs.StorySights.{player_shown}
-use Rattle.isolation_laws.specs.Isolation.{edit_in, edits_of, holds_along, holds_from, holds_always, is_irrelevant, is_owners, has_cond, hides_value, is_out_of_sight, is_of_other, is_unseen, asks, AskingChangesNothing, FeedsStayEqual}
+use Rattle.isolation_laws.specs.Unseen.{edit_in, edits_of, holds_along, holds_from, holds_always, is_irrelevant, is_owner_only, has_cond, hides_value, is_out_of_sight, is_of_other, is_unseen}
+use Rattle.isolation_laws.specs.Isolation.{asks, AskingChangesNothing, FeedsStayEqual}
 use Rattle.isolation_laws.proofs.Mine.{mine, mine_one, mine_other, found_number, other_line}
 use Rattle.isolation_laws.proofs.Unshown.{irrelevant, edit_unseen, destroy_unseen, value_unseen, owners_hidden, custom_hidden}
 use Rattle.isolation_laws.proofs.Follows.{with_edit, one_more, story_edits, story_more, Along, along, first_along, found_in, Course, follow, same_course, Blinds, edit_course}
@@ -139,14 +140,14 @@ destroys_out_of_sight table n before a after h =
     (worlds_along (is_irrelevant table n a) [] before start (first_along (is_irrelevant table n a) [] before start)) parts.0 parts.1
 
 -- values for owners, of actors that the player doesn't own
-pub owners_values_unseen : (table : Table) (n : ℕ) (before : List Line) (a h : ℕ) (v : ℤ) (after : List Line) → has_cond is_owners table (edits_of before) a h ≡ true
+pub owners_values_unseen : (table : Table) (n : ℕ) (before : List Line) (a h : ℕ) (v : ℤ) (after : List Line) → has_cond is_owner_only table (edits_of before) a h ≡ true
     → holds_from (λ edits. not (owns edits n a)) before (ApplyEdit (Set a h v)) after ≡ true → FoundSame table n before (ApplyEdit (Set a h v)) after
 owners_values_unseen table n before a h v after c k =
     let parts = from_parts (λ edits. not (owns edits n a)) before (ApplyEdit (Set a h v)) after k in
     edits_unseen table n before (Set a h v) after (λ edits. not (owns edits n a)) (λ (l : List Line). Unit {0})
     (record {
       grows = λ one line t w. tt;
-      shows = λ newer one q r s w p found. value_unseen table is_owners a h v newer (edits_of before) n (earlier_of p) refl c
+      shows = λ newer one q r s w p found. value_unseen table is_owner_only a h v newer (edits_of before) n (earlier_of p) refl c
           (λ prop t. owners_hidden prop.cond (owns (newer ++ Set a h v ∷ edits_of before) n a) (is_on (newer ++ Set a h v ∷ edits_of before) a h) t (irrelevant (owns (newer ++ Set a h v ∷ edits_of before) n a) s));
     }) tt parts.0 parts.1
 
@@ -166,9 +167,9 @@ custom_values_unseen table n before a h v after c k =
 
 value_hidden : (table : Table) (n : ℕ) (before : List Line) (x : Edit) (after : List Line) → hides_value table n before x after ≡ true → FoundSame table n before (ApplyEdit x) after
 value_hidden table n before (Set a h v) after k =
-    elim (or_cases (has_cond is_owners table (edits_of before) a h && holds_from (λ edits. not (owns edits n a)) before (ApplyEdit (Set a h v)) after)
+    elim (or_cases (has_cond is_owner_only table (edits_of before) a h && holds_from (λ edits. not (owns edits n a)) before (ApplyEdit (Set a h v)) after)
     (has_cond is_custom table (edits_of before) a h && holds_from (λ edits. not (is_on edits a h)) before (ApplyEdit (Set a h v)) after) k) [
-      | inl e ↦ (let parts = and_parts (has_cond is_owners table (edits_of before) a h) (holds_from (λ edits. not (owns edits n a)) before (ApplyEdit (Set a h v)) after) e in owners_values_unseen table n before a h v after parts.0 parts.1)
+      | inl e ↦ (let parts = and_parts (has_cond is_owner_only table (edits_of before) a h) (holds_from (λ edits. not (owns edits n a)) before (ApplyEdit (Set a h v)) after) e in owners_values_unseen table n before a h v after parts.0 parts.1)
       | inr e ↦ (let parts = and_parts (has_cond is_custom table (edits_of before) a h) (holds_from (λ edits. not (is_on edits a h)) before (ApplyEdit (Set a h v)) after) e in custom_values_unseen table n before a h v after parts.0 parts.1)
     ]
 value_hidden table n before (Spawn class u v) after k = absurd (cc)
