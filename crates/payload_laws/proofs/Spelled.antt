@@ -12,9 +12,9 @@ use Rattle.protocol_model.specs.Value.{is_below, is_within, fits}
 use Rattle.protocol_model.specs.Payload.{natural, value_bits}
 use Rattle.connection_model.specs.PayloadReading.{PayloadReading, natural_at, number_at, value_at}
 use Rattle.table_model.specs.Facts.{is_type}
-use Rattle.bit_io.proofs.IntLaws.{int-spelled}
-use Rattle.bit_io.proofs.PackedLaws.{packed-spelled}
-use Rattle.bit_io.proofs.Reading.{leading_fixed-spelled}
+use Rattle.protocol_laws.proofs.IntLaws.{int-spelled}
+use Rattle.protocol_laws.proofs.PackedLaws.{packed-spelled}
+use Rattle.protocol_laws.proofs.Reading.{leading_fixed-spelled}
 use Rattle.payload_laws.proofs.Tests.{left_of, below_is, most_of}
 use Rattle.payload_laws.proofs.Fields.{Answer}
 use Rattle.payload_laws.proofs.Values.{turned, twice_is, small_count}
