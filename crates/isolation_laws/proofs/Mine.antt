@@ -14,7 +14,7 @@ use Rattle.connection_model.specs.Feed.{Event, Tick, Got, Call}
 use Rattle.connection_model.specs.Fates.{top_of}
 use Rattle.replication_model.specs.Story.{Player, Story, past_at, out_at, with_event, other_side, Reported, earlier_of, after_tick_of, after_datagram, after_forgery, after_delivery, also_delivery, told_before, with_told, is_kept, after_new_deliveries, after_call_of, settled_answer, copies_reports, new_player, after_line}
 use Rattle.payload_laws.proofs.WorldValues.{same_some}
-use Rattle.connection_laws.proofs.Scripts.{delivered, delivered_number, told_number}
+use Rattle.connection_laws.proofs.StoriesTalk.{delivered, delivered_number, told_number}
 use Rattle.isolation_laws.specs.Unseen.{is_of_other}
 
 -- the player of this number

@@ -17,7 +17,7 @@ use Rattle.connection_model.specs.Verdict.{verdict_of}
 use Rattle.connection_model.specs.Handed.{handed_by}
 use Rattle.connection_model.specs.Copies.{copied_actors, copy_class, copy_channel}
 use Rattle.replication_model.specs.Story.{Player, Story, first_story, end_of, feed_of, past_at, out_at, with_event, other_side, Reported, tick_event, numbered_from, sent_reports, stalled_report, tick_reports, call_verdict, call_report, handed_reports, after_tick_of, after_datagram, after_forgery, after_delivery, also_delivery, with_told, after_new_deliveries, after_call_of, settled_answer, copy_values, copy_report, copies_reports, edit_reports, new_player, after_line, also_line, story_of}
-use Rattle.connection_laws.proofs.Scripts.{delivered}
+use Rattle.connection_laws.proofs.StoriesTalk.{delivered}
 use Rattle.isolation_laws.specs.Unseen.{is_unseen}
 use Rattle.isolation_laws.specs.Isolation.{heard_by, sent_to, sent_lines, joins, joins_once, SendsByFeed, SendsStayEqual, AnswersByFeed, VerdictsByFeed}
 use Rattle.connection_model.specs.CallAnswers.{answer_of}

@@ -7,7 +7,7 @@ use Rattle.protocol_model.specs.Side.{AtServer}
 use Rattle.connection_model.specs.Feed.{End, Event, Tick, Got, Call}
 use Rattle.connection_model.specs.Past.{past_of, out_of}
 use Rattle.replication_model.specs.Story.{numbered_from, sent_reports, stalled_report, story_of}
-use Rattle.connection_laws.proofs.Outgoing.{sends_more, got_sends, call_sends}
+use Rattle.connection_laws.proofs.SentStays.{sends_more, got_sends, call_sends}
 use Rattle.isolation_laws.specs.Isolation.{sent_to, numbered, SendsOut, heard_by}
 use Rattle.isolation_laws.proofs.Mine.{mine}
 use Rattle.isolation_laws.proofs.Sends.{shown_of, sends_of, stalled_none, sent_by_feed, as_heard, heard_sends}

@@ -28,30 +28,30 @@ use Rattle.connection_model.specs.Verdict.{after_entries, after_got}
 use Rattle.connection_laws.specs.Run.{Move, Ticks, Makes, Defers, Sends, Takes, Hears, Hands, Ends, after_move, May, IsRun}
 use Rattle.connection_laws.specs.Run.IsRun.{does}
 use Rattle.connection_laws.specs.Deeds.{DeedsFit}
-use Rattle.connection_laws.specs.Link.{Said, Holds, entry_said, all_said, said_by, IsWhole, IsLink}
+use Rattle.connection_laws.specs.Link.{Said, SaysItem, entry_said, all_said, said_by, IsWhole, IsLink}
 use Rattle.connection_laws.specs.Link.IsLink.{right_does}
 use Rattle.connection_laws.specs.Talk.{IsPacketOf, MayHear, IsTalk}
 use Rattle.connection_laws.specs.Talk.IsTalk.{start, left_hears, right_hears}
 use Rattle.connection_laws.specs.Delivered.{messages_on, is_closed_by}
 use Rattle.connection_laws.proofs.Moves.{making_keeps}
 use Rattle.connection_laws.proofs.Deeds.{deeds_fit}
-use Rattle.connection_laws.proofs.Live.{IsQuiet, Goes, IsDone, runs_go}
+use Rattle.connection_laws.proofs.LiveRuns.{IsQuiet, Goes, IsDone, runs_go}
 use Rattle.connection_laws.proofs.Ticking.{IsTicking, closes_tick, packing_packs, all_sent, sendable, tick_runs}
 use Rattle.connection_laws.proofs.Calling.{call_runs}
 use Rattle.connection_laws.proofs.Feeds.{feed_done, feed_runs}
-use Rattle.connection_laws.proofs.Between.{reads_there}
+use Rattle.connection_laws.proofs.LinkLaws.{reads_there}
 use Rattle.connection_laws.proofs.Searches.{among_here, among_there}
-use Rattle.connection_laws.proofs.Linked.{left_run}
-use Rattle.connection_laws.proofs.Scripts.{linked}
-use Rattle.connection_laws.proofs.Talking.{Talked, talked}
+use Rattle.connection_laws.proofs.LinkedEnds.{left_run}
+use Rattle.connection_laws.proofs.StoriesTalk.{linked}
+use Rattle.connection_laws.proofs.TalksLink.{Talked, talked}
 use Rattle.payload_laws.specs.Accepted.{AreAccepted}
-use Rattle.headline_laws.specs.Fits.{Fits}
+use Rattle.headline_laws.specs.Fits.{PastFits}
 use Rattle.headline_laws.proofs.ClientHears.{Follower, HeardOne, hears_one, loose_said, loosely}
-use Rattle.headline_laws.proofs.Agreement.{Agreement, FeedsKnown, agree_talk, one_more, goes_on, read_as, got_by, facts_at, right_still, rest_sees, rest_blind}
-use Rattle.headline_laws.proofs.Honest.{few_parts}
-use Rattle.headline_laws.proofs.Passes.{ServerFacts}
-use Rattle.headline_laws.proofs.Spelled.{end_fits}
-use Rattle.headline_laws.proofs.Whole.{messages_short}
+use Rattle.headline_laws.proofs.EndsAgree.{Agreement, FeedsKnown, agree_talk, one_more, goes_on, read_as, got_by, facts_at, right_still, rest_sees, rest_blind}
+use Rattle.headline_laws.proofs.HonestPlayers.{few_parts}
+use Rattle.headline_laws.proofs.NextPasses.{ServerFacts}
+use Rattle.headline_laws.proofs.PacketsSpelled.{end_fits}
+use Rattle.headline_laws.proofs.WholeMessages.{messages_short}
 use Rattle.recovery_laws.specs.Faithful.{items_of, loose_in, loose_of, AppliesPacket, AppliesLoose}
 use Rattle.recovery_laws.proofs.Grows.{Extends, event_extends}
 use Rattle.recovery_laws.proofs.Loose.{reversed_twice}
@@ -59,7 +59,7 @@ use Rattle.recovery_laws.proofs.Numbered.{SentAt, sent_at, items_at}
 
 -- ---- what a packet said is what it was sent with
 
-held_loose : (items : List Item) → filter_map loose_said (map (λ (item : Item). Holds item) items) ≡ filter_map loose_in items
+held_loose : (items : List Item) → filter_map loose_said (map (λ (item : Item). SaysItem item) items) ≡ filter_map loose_in items
 held_loose [] = refl
 held_loose (Owed n ∷ items) = held_loose items
 held_loose (Carries c n b ∷ items) = held_loose items
@@ -184,7 +184,7 @@ module _ (entries : List Entry) (is : IsTable entries) (player : ℕ) (edits : E
     ends : after_entries right (Took k es ds ∷ past) (map entry_said after) ≡ Took k entries_heard news ∷ past
     loose : loosely news ≡ reverse (filter_map loose_said after) ++ loosely ds
 
-  hears_loosely : (l past : Past) → ServerFacts entries (class_of (table_of entries) edits) left l → Fits left l → (k : ℕ) → has_ended past ≡ false → top_of past < k → (after before : List Said) (es : List Feed.Entry) (ds : List Delivered) → said_by v l k ≡ before ++ after → es ≡ reverse (map entry_said before)
+  hears_loosely : (l past : Past) → ServerFacts entries (class_of (table_of entries) edits) left l → PastFits left l → (k : ℕ) → has_ended past ≡ false → top_of past < k → (after before : List Said) (es : List Feed.Entry) (ds : List Delivered) → said_by v l k ≡ before ++ after → es ≡ reverse (map entry_said before)
       → Follower entries (class_of (table_of entries) edits) left right l (Took k es ds ∷ past) → HeardLoosely past k es ds after
   hears_loosely l past facts fits k alive fresh [] before es ds said told f = record { entries_heard = es; news = ds; ends = refl; loose = refl }
   hears_loosely l past facts fits k alive fresh (s ∷ after) before es ds said told f =
@@ -211,7 +211,7 @@ module _ (entries : List Entry) (is : IsTable entries) (player : ℕ) (edits : E
   abbrev Comes : (l me later : Past) → Type 0
   Comes l me later = (later ≡ me) ⊎ TakesOne l me later
 
-  got_comes : (l r : Past) (bytes : List ℕ) → Fits left l → Talked v left right l r → Agreement entries player edits left right l r → IsPacketOf right left r l bytes → Comes l r (after_got right r bytes)
+  got_comes : (l r : Past) (bytes : List ℕ) → PastFits left l → Talked v left right l r → Agreement entries player edits left right l r → IsPacketOf right left r l bytes → Comes l r (after_got right r bytes)
   got_comes l r bytes fits t a q = (got_by entries is player edits ok v left right lv rv server client left_table right_table right r bytes q.packet (Comes l r) q.read (inl refl) (λ alive new.
       (let near_k = (reads_there left right l r same a.follower.link).packet q.number q.come in
       let as_read = read_as entries is player edits ok v left right lv rv server client left_table right_table right left rv lv r l q.number q.packet q.sent near_k in
@@ -248,7 +248,7 @@ module _ (entries : List Entry) (is : IsTable entries) (player : ℕ) (edits : E
         ∙ items_stay left x.0 (past_of left l) (deeds_fit left (past_of left l) (left_run left right (past_of left l) r link)) (subst (DeedsFit left) x.1 (deeds_fit left (past_of left (event ∷ l)) later)) n sent.0 sent.1))) h.loose;
   }
 
-  right_applies : (l : Past) (r : List Event) (event : Event) → Fits left l → Talked v left right l (past_of right r) → Agreement entries player edits left right l (past_of right r) → MayHear right left (past_of right r) l event
+  right_applies : (l : Past) (r : List Event) (event : Event) → PastFits left l → Talked v left right l (past_of right r) → Agreement entries player edits left right l (past_of right r) → MayHear right left (past_of right r) l event
       → Applies l (past_of right r) → Applies l (past_of right (event ∷ r))
   right_applies l r (Tick sight) fits t a q h = record {
     unbroken = tick_unclosed right (past_of right r) sight (feed_done right r) h.unbroken;

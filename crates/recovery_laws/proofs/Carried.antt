@@ -16,15 +16,14 @@ use Rattle.connection_model.specs.Copies.{delivered_of, handed_in, removes, valu
 use Rattle.connection_laws.specs.Run.{MaySend, MaySendAll}
 use Rattle.connection_laws.specs.Deeds.{FitsBefore, DeedsFit}
 use Rattle.connection_laws.specs.Link.{IsLink}
-use Rattle.connection_laws.specs.Delivered.{Numbered}
-use Rattle.connection_laws.specs.InTurn.{Fits, Brackets, BracketsFit}
+use Rattle.connection_laws.specs.Delivered.{on_index, Numbered}
+use Rattle.connection_laws.specs.InTurn.{FitsUse, Brackets, BracketsFit}
 use Rattle.connection_laws.proofs.Deeds.{each_at, deeds_fit}
 use Rattle.connection_laws.proofs.Items.{all_append, all_weaker}
-use Rattle.connection_laws.proofs.Said.{Among, in_right, all_at, in_middle}
-use Rattle.connection_laws.proofs.Told.{done_taken}
-use Rattle.connection_laws.proofs.Linked.{Both, both, left_run, right_run}
-use Rattle.headline_laws.specs.Whole.{on_index}
-use Rattle.headline_laws.proofs.Whole.{longer}
+use Rattle.connection_laws.proofs.PacketsSay.{IsIn, in_right, all_at, in_middle}
+use Rattle.connection_laws.proofs.AcksTaken.{done_taken}
+use Rattle.connection_laws.proofs.LinkedEnds.{Both, both, left_run, right_run}
+use Rattle.headline_laws.proofs.WholeMessages.{longer}
 use Rattle.recovery_laws.specs.Faithful.{items_of, loose_in, loose_of, AppliesPacket, AppliesLoose}
 use Rattle.recovery_laws.proofs.Grows.{Moment, MomentAt, Moments}
 use Rattle.recovery_laws.proofs.Opening.{FoundIn, newest_found, newest_none, begins_open, OpenedAt, Front, front_of}
@@ -35,7 +34,7 @@ use Rattle.recovery_laws.proofs.Newest.{value_is, quiet_stays, removes_said, ope
 use Rattle.recovery_laws.proofs.Handing.{same_end, from_index, from_append, Trail, all_handed, all_first, all_second, among_from, HandedAt, handed_at, handed_is}
 use Rattle.recovery_laws.proofs.Taken.{TookAt, took_at, later_packets, opened_index, open_handed, made_then}
 
-pub all_by_among : {A : Type 0} (P : A → Type 0) (xs : List A) → ((x : A) → Among x xs → P x) → AllByRecursion P xs
+pub all_by_among : {A : Type 0} (P : A → Type 0) (xs : List A) → ((x : A) → IsIn x xs → P x) → AllByRecursion P xs
 all_by_among P [] h = tt
 all_by_among P (x ∷ xs) h = (h x (inl refl), all_by_among P xs (λ y q. h y (inr q)))
 
@@ -48,7 +47,7 @@ NoUpdate (Updates actor class values) = ⊥
 NoUpdate (Calls actor number call args) = Unit {0}
 NoUpdate (Gone actor) = Unit {0}
 
-no_update : (before : List Numbered) (m : Message) → Fits before m → NoUpdate m
+no_update : (before : List Numbered) (m : Message) → FitsUse before m → NoUpdate m
 no_update before (Opens exports actor class values) h = tt
 no_update before (Closes actor sleeps) h = tt
 no_update before (Updates actor class values) h = h
@@ -62,7 +61,7 @@ no_updates (made ∷ before) h = (no_update before made.1 h.0, no_updates before
 pub reliables : (server client : Past) → BracketsFit server → ((ch : ℕ) → Trail server client ch) → AllByRecursion (λ (d : Delivered). d.reliable ≡ true → NoUpdate d.message) (delivered_of client)
 reliables server client fit trails = all_by_among (λ (d : Delivered). d.reliable ≡ true → NoUpdate d.message) (delivered_of client) one
   where
-    one : (d : Delivered) → Among d (delivered_of client) → d.reliable ≡ true → NoUpdate d.message
+    one : (d : Delivered) → IsIn d (delivered_of client) → d.reliable ≡ true → NoUpdate d.message
     one d a r =
         among_from (λ (x : Delivered). NoUpdate x.message) d.channel (delivered_of client)
         (all_handed NoUpdate server client d.channel (trails d.channel) (no_updates (on_index d.channel server) (fit d.channel))) d a
@@ -108,7 +107,7 @@ update_opened end past a h (Loose (Updates actor class values) b) v e may = by (
 
 -- the items of one packet agree on each handle of an actor
 abbrev pub SameValues : List Item → Type 0
-SameValues items = (a h : ℕ) (v w : ℤ) (x y : Item) → Among x items → Among y items → value_in_update a h x ≡ Some v → value_in_update a h y ≡ Some w → v ≡ w
+SameValues items = (a h : ℕ) (v w : ℤ) (x y : Item) → IsIn x items → IsIn y items → value_in_update a h x ≡ Some v → value_in_update a h y ≡ Some w → v ≡ w
 
 -- none of these says anything of the handle
 abbrev pub SaysNothing : (actor handle : ℕ) → List Item → Type 0
@@ -237,7 +236,7 @@ module _ (left right : End) (same : left.version ≡ right.version) (server clie
           (all_second (λ (d : Deed). begins_open a d ≡ false) found.before (Sent k b.tick b.items ∷ rest) (subst (AllByRecursion (λ (d : Deed). begins_open a d ≡ false)) newer_is o.none)).1 in
           let item = newest_found (value_in_update a h) b.items c.value b.value in
           let items_are : items_of server k ≡ b.items = ap (λ (p : Past). items_of p k) split ∙ items_at left found.before k b.tick b.items past server_fit in
-          let among_item : Among item.item b.items = subst (Among item.item) (sym item.split) (in_middle item.item item.before item.after) in
+          let among_item : IsIn item.item b.items = subst (IsIn item.item) (sym item.split) (in_middle item.item item.before item.after) in
           let may : MaySendAll left past b.items = (each_at (FitsBefore left) found.before (Sent k b.tick b.items) past server_fit).2 in
           let opened : is_opened (state_of past a) ≡ true = update_opened left past a h item.item c.value item.gives (all_at (MaySend left past) item.item b.items may.each among_item) in
           let ends : Both left.version server client = both left.version left right refl (sym same) server client link in
@@ -256,21 +255,21 @@ module _ (left right : End) (same : left.version ≡ right.version) (server clie
           let here : AllByRecursion (λ (d : Delivered). d.reliable ≡ false → IsOneOf c.value (value_said a h d.message)) t.handed =
           handed_all (λ (m : Message). IsOneOf c.value (value_said a h m)) t.handed (loose_of server k) packet
           (plain_messages (IsOneOf c.value) k (all_by_among (λ (x : Item). IsOneOf c.value (value_in_update a h x)) (items_of server k)
-          (λ x q. alike x q item.item (subst (Among item.item) (sym items_are) among_item) item.gives))) in
+          (λ x q. alike x q item.item (subst (IsIn item.item) (sym items_are) among_item) item.gives))) in
           let later : AllByRecursion (λ (d : Delivered). d.reliable ≡ false → IsOneOf c.value (value_said a h d.message)) (delivered_of t.later) =
           later_packets (λ (m : Message). IsOneOf c.value (value_said a h m)) right server k
           (λ j lt ds es before applies. handed_all (λ (m : Message). IsOneOf c.value (value_said a h m)) ds (loose_of server j) applies
           (nothing_one c.value j (subst (λ (p : Past). SaysNothing a h (items_of p j)) (sym split) (items_after (SaysNothing a h) tt left found.before k b.tick b.items past server_fit nothing j lt))))
           t.later t.entries t.handed t.before (subst (DeedsFit right) t.split client_fit) client_loose in
           let one = loose_one a h c.value item.before item.item item.after (subst (AllByRecursion PlainItem) (items_are ∙ item.split) (items_plain left server fit k)) item.gives in
-          let said : Among one.message (loose_of server k) = subst (λ (l : List Item). Among one.message (filter_map loose_in l)) (sym (items_are ∙ item.split)) one.among in
+          let said : IsIn one.message (loose_of server k) = subst (λ (l : List Item). IsIn one.message (filter_map loose_in l)) (sym (items_are ∙ item.split)) one.among in
           let d = handed_each t.handed (loose_of server k) packet one.message said in
           value_is client a h c.value newer (delivered_of t.before) all (quiet_stays a newer quiet)
           (says_one a h c.value newer quiet (all_first (λ (x : Delivered). x.reliable ≡ true → NoUpdate x.message) newer (delivered_of t.before) (subst (AllByRecursion (λ (x : Delivered). x.reliable ≡ true → NoUpdate x.message)) all no_reliable))
           (all_append (λ (x : Delivered). x.reliable ≡ false → IsOneOf c.value (value_said a h x.message)) (delivered_of t.later) t.handed later here))
           d.delivered (in_right d.delivered (delivered_of t.later) t.handed d.among) (ap (value_said a h) d.is ∙ one.says)
         where
-          alike : (x : Item) → Among x (items_of server b.number) → (y : Item) → Among y (items_of server b.number) → value_in_update a h y ≡ Some c.value → IsOneOf c.value (value_in_update a h x)
+          alike : (x : Item) → IsIn x (items_of server b.number) → (y : Item) → IsIn y (items_of server b.number) → value_in_update a h y ≡ Some c.value → IsOneOf c.value (value_in_update a h x)
           alike x q y r e = cases (value_in_update a h x) refl
             where
               cases : (o : Option ℤ) → value_in_update a h x ≡ o → IsOneOf c.value o

@@ -25,20 +25,20 @@ use Rattle.connection_model.specs.Copies.{delivered_of, copy_class, has_copy, co
 use Rattle.connection_laws.specs.Run.{IsRun}
 use Rattle.connection_laws.specs.Deeds.{DeedsFit}
 use Rattle.connection_laws.specs.Link.{IsLink}
-use Rattle.connection_laws.specs.Delivered.{Numbered}
+use Rattle.connection_laws.specs.Delivered.{on_index, Numbered}
 use Rattle.connection_laws.proofs.Deeds.{deeds_fit}
 use Rattle.connection_laws.proofs.Arrivals.{arrived_is_moved}
 use Rattle.connection_laws.proofs.InTurn.{open_holds_it, brackets_fit}
 use Rattle.connection_laws.proofs.Spans.{some_parts}
-use Rattle.connection_laws.proofs.Hands.{hands_received}
-use Rattle.connection_laws.proofs.Linked.{Both, both, left_run}
-use Rattle.connection_laws.proofs.Between.{applies_there}
-use Rattle.connection_laws.proofs.Scripts.{linked}
-use Rattle.headline_laws.specs.Whole.{on_index, ArrivedBelow}
+use Rattle.connection_laws.proofs.HandingOn.{hands_received}
+use Rattle.connection_laws.proofs.LinkedEnds.{Both, both, left_run}
+use Rattle.connection_laws.proofs.LinkLaws.{applies_there}
+use Rattle.connection_laws.proofs.StoriesTalk.{linked}
+use Rattle.headline_laws.specs.Whole.{ArrivedBelow}
 use Rattle.headline_laws.specs.Marks.{marks_of}
 use Rattle.headline_laws.specs.Follows.{parts_in, HandsOn, HandsOnAll, IsAhead, CopyAfter, CopyBy, MarksFollow}
-use Rattle.headline_laws.proofs.Whole.{InRow, rows}
-use Rattle.headline_laws.proofs.Clear.{open_arrived, row_at, parts_append, parts_reverse}
+use Rattle.headline_laws.proofs.WholeMessages.{InRow, rows}
+use Rattle.headline_laws.proofs.ReceivedFirst.{open_arrived, row_at, parts_append, parts_reverse}
 use Rattle.recovery_laws.specs.Faithful.{IsFaithfulTalk}
 use Rattle.recovery_laws.proofs.Grows.{moments}
 use Rattle.recovery_laws.proofs.Known.{received_count}

@@ -20,15 +20,15 @@ use Rattle.connection_laws.specs.Talk.{IsPacketOf, MayHear, IsTalk}
 use Rattle.connection_laws.specs.Talk.IsTalk.{start, left_hears, right_hears}
 use Rattle.connection_laws.specs.Delivered.{HandsReceived, is_closing, is_closed_by}
 use Rattle.connection_laws.proofs.Moves.{making_keeps}
-use Rattle.connection_laws.proofs.Live.{IsQuiet, Goes, IsDone}
+use Rattle.connection_laws.proofs.LiveRuns.{IsQuiet, Goes, IsDone}
 use Rattle.connection_laws.proofs.Calling.{call_runs}
 use Rattle.connection_laws.proofs.Hearing.{entry_runs}
 use Rattle.connection_laws.proofs.Ticking.{tick_runs}
 use Rattle.connection_laws.proofs.Feeds.{feed_done}
-use Rattle.connection_laws.proofs.Hands.{hands_received}
-use Rattle.connection_laws.proofs.Talking.{PacketFacts, packet_facts}
-use Rattle.connection_laws.proofs.Between.{reads_there}
-use Rattle.connection_laws.proofs.Scripts.{linked}
+use Rattle.connection_laws.proofs.HandingOn.{hands_received}
+use Rattle.connection_laws.proofs.TalksLink.{PacketFacts, packet_facts}
+use Rattle.connection_laws.proofs.LinkLaws.{reads_there}
+use Rattle.connection_laws.proofs.StoriesTalk.{linked}
 
 -- ---- at the front
 

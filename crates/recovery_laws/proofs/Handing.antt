@@ -6,11 +6,10 @@ use Rattle.std.proofs.lemmas.List.{length-append, length-map, map-append, revers
 use Rattle.protocol_model.specs.Payload.{Message}
 use Rattle.connection_model.specs.Feed.{Past, Delivered}
 use Rattle.connection_model.specs.Copies.{delivered_of}
-use Rattle.connection_laws.specs.Delivered.{Numbered}
-use Rattle.connection_laws.proofs.Said.{Among}
-use Rattle.headline_laws.specs.Whole.{on_index}
+use Rattle.connection_laws.specs.Delivered.{on_index, Numbered}
+use Rattle.connection_laws.proofs.PacketsSay.{IsIn}
 use Rattle.headline_laws.specs.Follows.{HandsOn}
-use Rattle.headline_laws.proofs.Whole.{longer}
+use Rattle.headline_laws.proofs.WholeMessages.{longer}
 use Rattle.recovery_laws.proofs.Loose.{reversed_twice}
 
 -- a reliable payload of the channel
@@ -138,11 +137,11 @@ later_handed P from to ch t newer made older e all after before d few =
     again (x ∷ xs) ys zs = ap (λ (l : List Numbered). x ∷ l) (again xs ys zs)
 
 -- of all payloads of the index, in a list of all
-pub among_from : (P : Delivered → Type 0) (ch : ℕ) (ds : List Delivered) → AllByRecursion P (from_index ch ds) → (d : Delivered) → Among d ds → is_from ch d ≡ true → P d
+pub among_from : (P : Delivered → Type 0) (ch : ℕ) (ds : List Delivered) → AllByRecursion P (from_index ch ds) → (d : Delivered) → IsIn d ds → is_from ch d ≡ true → P d
 among_from P ch [] h d a e = absurd a
 among_from P ch (x ∷ ds) h d a e = by (is_from ch x) refl h a (λ q s. among_from P ch ds q d s e)
   where
-    by : (b : Bool) → is_from ch x ≡ b → AllByRecursion P (cond b (x ∷ from_index ch ds) (from_index ch ds)) → (x ≡ d) ⊎ Among d ds → (AllByRecursion P (from_index ch ds) → Among d ds → P d) → P d
+    by : (b : Bool) → is_from ch x ≡ b → AllByRecursion P (cond b (x ∷ from_index ch ds) (from_index ch ds)) → (x ≡ d) ⊎ IsIn d ds → (AllByRecursion P (from_index ch ds) → IsIn d ds → P d) → P d
     by true q h (inl s) ih = subst P s h.0
     by true q h (inr s) ih = ih h.1 s
     by false q h (inl s) ih = absurd (false≢true (sym q ∙ ap (is_from ch) s ∙ e))

@@ -14,20 +14,20 @@ use Rattle.connection_model.specs.Windows.{received_on, next_of, applied_of, who
 use Rattle.connection_model.specs.Verdict.{with_told, with_handed}
 use Rattle.connection_model.specs.Pack.{after_sending}
 use Rattle.connection_laws.specs.Run.{Move, Ticks, Makes, Defers, Sends, Takes, Hears, Hands, Ends, after_move, May, IsRun}
-use Rattle.connection_laws.specs.Delivered.{Numbered, messages_on, payload_of, bunches_made, AppliesPrefixes, ReadEach}
+use Rattle.connection_laws.specs.Delivered.{on_index, Numbered, messages_on, payload_of, bunches_made, AppliesPrefixes, ReadEach}
 use Rattle.connection_laws.proofs.Moves.{making_keeps}
 use Rattle.connection_laws.proofs.Deeds.{always}
 use Rattle.connection_laws.proofs.Fates.{moves_sent}
 use Rattle.connection_laws.proofs.Arrivals.{arrival_sent, arrival_told, arrival_handed}
 use Rattle.connection_laws.proofs.Prefixes.{bunches_of, cut_in_parts}
-use Rattle.connection_laws.proofs.Joins.{all_join}
+use Rattle.connection_laws.proofs.PartsJoin.{all_join}
 use Rattle.connection_laws.proofs.Applied.{kept_after, wholes_split}
 use Rattle.connection_laws.proofs.Receiving.{has, below_next}
-use Rattle.connection_laws.proofs.Core.{Core}
-use Rattle.headline_laws.specs.Whole.{on_index, ArrivedBelow}
+use Rattle.connection_laws.proofs.Transfer.{Transfers}
+use Rattle.headline_laws.specs.Whole.{ArrivedBelow}
 use Rattle.headline_laws.specs.Follows.{parts_in}
-use Rattle.headline_laws.proofs.Whole.{InRow, rows, longer, map_length, applied_length, bunches_length, joined, arrived_below}
-use Rattle.headline_laws.proofs.Clear.{row_at, parts_reverse}
+use Rattle.headline_laws.proofs.WholeMessages.{InRow, rows, longer, map_length, applied_length, bunches_length, joined, arrived_below}
+use Rattle.headline_laws.proofs.ReceivedFirst.{row_at, parts_reverse}
 
 -- ---- what had arrived when a packet was sent has arrived
 
@@ -102,7 +102,7 @@ read_lengths end [] (w ∷ ws) h = absurd h
 read_lengths end (d ∷ ds) [] h = absurd h
 read_lengths end (d ∷ ds) (w ∷ ws) h = ap suc (read_lengths end ds ws h.1)
 
-module _ (v : Version) (end : End) (from to : Past) (run : IsRun end from) (core : Core v from to) (applies : AppliesPrefixes from to) (ch : ℕ)
+module _ (v : Version) (end : End) (from to : Past) (run : IsRun end from) (core : Transfers v from to) (applies : AppliesPrefixes from to) (ch : ℕ)
     (newer : List Numbered) (made : Numbered) (older : List Numbered) (split : on_index ch from ≡ newer ++ made ∷ older) where
   row : made.0 ≡ parts_in older + 1
   row = row_at newer made older (subst InRow split (rows end from run ch).row)

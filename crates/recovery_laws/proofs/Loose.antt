@@ -12,7 +12,7 @@ use Rattle.connection_model.specs.Copies.{value_for, value_applied}
 use Rattle.connection_laws.specs.Run.{MaySend}
 use Rattle.connection_laws.specs.Deeds.{DeedsFit}
 use Rattle.connection_laws.proofs.Items.{all_reverse}
-use Rattle.connection_laws.proofs.Said.{Among, in_left, in_right}
+use Rattle.connection_laws.proofs.PacketsSay.{IsIn, in_left, in_right}
 use Rattle.recovery_laws.specs.Faithful.{items_of, loose_in, handed_loosely}
 
 -- ---- what a message says of a handle
@@ -37,10 +37,10 @@ pub reversed_twice : {A : Type 0} (xs : List A) → reverse (reverse xs) ≡ xs
 reversed_twice [] = refl
 reversed_twice {A} (x ∷ xs) = ap (λ (l : List A). reverse l) (reverse-append (x ∷ []) xs) ∙ reverse-append (reverse xs) (x ∷ []) ∙ ap (λ (l : List A). x ∷ l) (reversed_twice xs)
 
-among_reverse : {A : Type 0} (x : A) (xs : List A) → Among x xs → Among x (reverse xs)
+among_reverse : {A : Type 0} (x : A) (xs : List A) → IsIn x xs → IsIn x (reverse xs)
 among_reverse x [] h = absurd h
-among_reverse {A} x (y ∷ xs) (inl e) = subst (Among x) (sym (reverse-append (y ∷ []) xs)) (in_right x (reverse xs) (y ∷ []) (inl e))
-among_reverse {A} x (y ∷ xs) (inr h) = subst (Among x) (sym (reverse-append (y ∷ []) xs)) (in_left x (reverse xs) (y ∷ []) (among_reverse x xs h))
+among_reverse {A} x (y ∷ xs) (inl e) = subst (IsIn x) (sym (reverse-append (y ∷ []) xs)) (in_right x (reverse xs) (y ∷ []) (inl e))
+among_reverse {A} x (y ∷ xs) (inr h) = subst (IsIn x) (sym (reverse-append (y ∷ []) xs)) (in_left x (reverse xs) (y ∷ []) (among_reverse x xs h))
 
 -- ---- an unreliable item is an update or a call
 
@@ -107,7 +107,7 @@ loose_say P a h (Loose message bunch ∷ items) plain all = (subst P (sym (said_
 -- and one of them says what an item does
 pub record SaysOne (a h : ℕ) (v : ℤ) (ms : List Message) : Type 0 where
   pub message : Message
-  pub among : Among message ms
+  pub among : IsIn message ms
   pub says : value_said a h message ≡ Some v
 
 pub loose_one : (a h : ℕ) (v : ℤ) (before : List Item) (item : Item) (after : List Item) → AllByRecursion PlainItem (before ++ item ∷ after) → value_in_update a h item ≡ Some v → SaysOne a h v (filter_map loose_in (before ++ item ∷ after))
@@ -135,25 +135,25 @@ handed_all Q ds ms e h = handed_if Q ds (subst (AllByRecursion Q) (ap (λ (l : L
 
 pub record HandedOn (m : Message) (ds : List Delivered) : Type 0 where
   pub delivered : Delivered
-  pub among : Among delivered ds
+  pub among : IsIn delivered ds
   pub unreliable : delivered.reliable ≡ false
   pub is : delivered.message ≡ m
 
-handed_there : (m : Message) (ds : List Delivered) → Among m (filter_map handed_loosely ds) → HandedOn m ds
+handed_there : (m : Message) (ds : List Delivered) → IsIn m (filter_map handed_loosely ds) → HandedOn m ds
 handed_there m [] h = absurd h
 handed_there m (d ∷ ds) h = by d.reliable refl h (λ q. handed_there m ds q)
   where
     later : HandedOn m ds → HandedOn m (d ∷ ds)
     later r = record { delivered = r.delivered; among = inr r.among; unreliable = r.unreliable; is = r.is }
 
-    here : d.reliable ≡ false → Among m (d.message ∷ filter_map handed_loosely ds) → (Among m (filter_map handed_loosely ds) → HandedOn m ds) → HandedOn m (d ∷ ds)
+    here : d.reliable ≡ false → IsIn m (d.message ∷ filter_map handed_loosely ds) → (IsIn m (filter_map handed_loosely ds) → HandedOn m ds) → HandedOn m (d ∷ ds)
     here e (inl q) ih = record { delivered = d; among = inl refl; unreliable = e; is = q }
     here e (inr q) ih = later (ih q)
 
-    by : (b : Bool) → d.reliable ≡ b → Among m (cons_option (then_some (not b) d.message) (filter_map handed_loosely ds)) → (Among m (filter_map handed_loosely ds) → HandedOn m ds) → HandedOn m (d ∷ ds)
+    by : (b : Bool) → d.reliable ≡ b → IsIn m (cons_option (then_some (not b) d.message) (filter_map handed_loosely ds)) → (IsIn m (filter_map handed_loosely ds) → HandedOn m ds) → HandedOn m (d ∷ ds)
     by true e h ih = later (ih h)
     by false e h ih = here e h ih
 
 -- each message sent was handed on
-pub handed_each : (ds : List Delivered) (ms : List Message) → reverse (filter_map handed_loosely ds) ≡ ms → (m : Message) → Among m ms → HandedOn m ds
-handed_each ds ms e m h = handed_there m ds (subst (Among m) (reversed_twice (filter_map handed_loosely ds)) (among_reverse m (reverse (filter_map handed_loosely ds)) (subst (Among m) (sym e) h)))
+pub handed_each : (ds : List Delivered) (ms : List Message) → reverse (filter_map handed_loosely ds) ≡ ms → (m : Message) → IsIn m ms → HandedOn m ds
+handed_each ds ms e m h = handed_there m ds (subst (IsIn m) (reversed_twice (filter_map handed_loosely ds)) (among_reverse m (reverse (filter_map handed_loosely ds)) (subst (IsIn m) (sym e) h)))

@@ -12,11 +12,10 @@ use Rattle.connection_model.specs.Feed.{End, Past, Deed, Ticked, Made, Waits, Se
 use Rattle.connection_model.specs.State.{Mark, is_mark, mark_in, last_mark, state_at, state_after, is_opened}
 use Rattle.connection_model.specs.Copies.{delivered_of, removes, class_opened, channel_said, copy_channel}
 use Rattle.connection_laws.specs.Deeds.{DeedsFit}
-use Rattle.connection_laws.specs.Delivered.{Numbered}
-use Rattle.connection_laws.proofs.Said.{Among, in_left, in_right, all_at}
+use Rattle.connection_laws.specs.Delivered.{on_index, Numbered}
+use Rattle.connection_laws.proofs.PacketsSay.{IsIn, in_left, in_right, all_at}
 use Rattle.connection_laws.proofs.Items.{all_append}
-use Rattle.headline_laws.specs.Whole.{on_index}
-use Rattle.headline_laws.proofs.Whole.{longer}
+use Rattle.headline_laws.proofs.WholeMessages.{longer}
 use Rattle.recovery_laws.specs.Faithful.{items_of, loose_of, AppliesLoose}
 use Rattle.recovery_laws.proofs.Opening.{begins_open, OpenedAt}
 use Rattle.recovery_laws.proofs.Loose.{IsPlain, items_plain, loose_plain, handed_all}
@@ -231,11 +230,11 @@ nothing_fresh end server client fit loose a o t index at newer older e few =
     free = later_handed (λ (m : Message). opens_said a m ≡ None) server client o.channel t (on_index o.channel o.newer) (o.number, Opens o.exports a o.class o.values) (on_index o.channel o.older) index
         (index_free a o.channel o.newer o.none) newer older e few
 
-    inside : (c : ChannelBy a o.channel (delivered_of client)) (more : List Delivered) → newer ≡ c.after ++ more → length c.after < length newer → Among c.delivered newer
+    inside : (c : ChannelBy a o.channel (delivered_of client)) (more : List Delivered) → newer ≡ c.after ++ more → length c.after < length newer → IsIn c.delivered newer
     inside c [] q lt = absurd (omega (arith, lt, ap length q, length-append c.after (let nil : List Delivered = [] in nil)))
     inside c (d ∷ more) q lt =
         let whole : c.after ++ c.delivered ∷ c.before ≡ c.after ++ d ∷ (more ++ older) = sym c.split ∙ e ∙ ap (λ (l : List Delivered). l ++ older) q ∙ append_assoc c.after (d ∷ more) older in
-        subst (Among c.delivered) (sym q) (in_right c.delivered c.after (d ∷ more) (inl (sym (head c.after whole))))
+        subst (IsIn c.delivered) (sym q) (in_right c.delivered c.after (d ∷ more) (inl (sym (head c.after whole))))
       where
         head : (xs : List Delivered) → xs ++ c.delivered ∷ c.before ≡ xs ++ d ∷ (more ++ older) → c.delivered ≡ d
         head [] q = cc
@@ -243,12 +242,12 @@ nothing_fresh end server client fit loose a o t index at newer older e few =
 
     against : (c : ChannelBy a o.channel (delivered_of client)) → (more : List Delivered) × (newer ≡ c.after ++ more) → length c.after < length newer → ⊥
     against c m lt =
-        let there : Among c.delivered newer = inside c m.0 m.1 lt in
+        let there : IsIn c.delivered newer = inside c m.0 m.1 lt in
         let plain : c.delivered.reliable ≡ false → IsPlain c.delivered.message =
-        all_at (λ (d : Delivered). d.reliable ≡ false → IsPlain d.message) c.delivered (delivered_of client) (plainly_handed end server fit client loose) (subst (Among c.delivered) (sym e) (in_left c.delivered newer older there)) in
+        all_at (λ (d : Delivered). d.reliable ≡ false → IsPlain d.message) c.delivered (delivered_of client) (plainly_handed end server fit client loose) (subst (IsIn c.delivered) (sym e) (in_left c.delivered newer older there)) in
         reliably c there c.delivered.reliable refl plain
       where
-        reliably : (c : ChannelBy a o.channel (delivered_of client)) → Among c.delivered newer → (t : Bool) → c.delivered.reliable ≡ t → (c.delivered.reliable ≡ false → IsPlain c.delivered.message) → ⊥
+        reliably : (c : ChannelBy a o.channel (delivered_of client)) → IsIn c.delivered newer → (t : Bool) → c.delivered.reliable ≡ t → (c.delivered.reliable ≡ false → IsPlain c.delivered.message) → ⊥
         reliably c there false r plain = absurd (subst IsPlain c.opens (plain r))
         reliably c there true r plain =
             let on : is_from o.channel c.delivered ≡ true = and_from (c.delivered.channel == o.channel) c.delivered.reliable (eq-eqb c.delivered.channel o.channel c.channel) r in

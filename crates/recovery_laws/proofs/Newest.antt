@@ -10,7 +10,7 @@ use Rattle.protocol_model.specs.Search.{newest_of, items_since}
 use Rattle.connection_model.specs.Feed.{Past, Delivered}
 use Rattle.connection_model.specs.Copies.{delivered_of, removes, class_opened, copy_class, value_applied, copy_value}
 use Rattle.connection_laws.proofs.Searches.{newest_hit, newest_miss}
-use Rattle.connection_laws.proofs.Said.{Among}
+use Rattle.connection_laws.proofs.PacketsSay.{IsIn}
 use Rattle.recovery_laws.specs.Initial.{IsQuietOf}
 use Rattle.recovery_laws.proofs.Loose.{IsOneOf}
 
@@ -20,7 +20,7 @@ since_append test [] ys h = refl
 since_append {A} test (x ∷ xs) ys h = ap (λ (t : Bool). cond t [] (x ∷ items_since test (xs ++ ys))) h.0 ∙ ap (λ (l : List A). x ∷ l) (since_append test xs ys h.1)
 
 -- the newest of those that say anything says this
-pub newest_one : {A B : Type 0} (f : A → Option B) (v : B) (xs ys : List A) → AllByRecursion (λ (x : A). (f x ≡ None) ⊎ (f x ≡ Some v)) xs → (x : A) → Among x xs → f x ≡ Some v → newest_of f (xs ++ ys) ≡ Some v
+pub newest_one : {A B : Type 0} (f : A → Option B) (v : B) (xs ys : List A) → AllByRecursion (λ (x : A). (f x ≡ None) ⊎ (f x ≡ Some v)) xs → (x : A) → IsIn x xs → f x ≡ Some v → newest_of f (xs ++ ys) ≡ Some v
 newest_one f v [] ys all x h e = absurd h
 newest_one f v (z ∷ xs) ys all x (inl q) e = newest_hit f z (xs ++ ys) v (ap f q ∙ e)
 newest_one f v (z ∷ xs) ys all x (inr q) e = elim all.0 [
@@ -34,7 +34,7 @@ newest_miss_all f (x ∷ xs) ys h = newest_miss f x (xs ++ ys) h.0 ∙ newest_mi
 
 -- a value
 pub value_is : (past : Past) (a h : ℕ) (v : ℤ) (newer older : List Delivered) → delivered_of past ≡ newer ++ older → AllByRecursion (λ (d : Delivered). removes a d ≡ false) newer
-    → AllByRecursion (λ (d : Delivered). IsOneOf v (value_applied a h d)) newer → (d : Delivered) → Among d newer → value_applied a h d ≡ Some v → copy_value past a h ≡ v
+    → AllByRecursion (λ (d : Delivered). IsOneOf v (value_applied a h d)) newer → (d : Delivered) → IsIn d newer → value_applied a h d ≡ Some v → copy_value past a h ≡ v
 value_is past a h v newer older e quiet all d among says =
     let class_value : ℤ = unwrap_or (option_map (λ (class : Class). initial_value class h) (copy_class past a)) (pos 0) in
     ap (λ (ds : List Delivered). unwrap_or (newest_of (value_applied a h) (items_since (removes a) ds)) class_value) e

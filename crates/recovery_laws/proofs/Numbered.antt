@@ -9,10 +9,10 @@ use Rattle.connection_model.specs.Feed.{End, Past, Deed, Ticked, Made, Waits, Se
 use Rattle.connection_model.specs.Fates.{last_sent, sent_in}
 use Rattle.connection_model.specs.Bunches.{made_count}
 use Rattle.connection_laws.specs.Deeds.{DeedsFit}
-use Rattle.connection_laws.specs.Link.{Holds, all_said, said_by}
+use Rattle.connection_laws.specs.Link.{SaysItem, all_said, said_by}
 use Rattle.connection_laws.proofs.Searches.{greatest_of-cons}
 use Rattle.connection_laws.proofs.Counts.{made_count_same, made_count_other}
-use Rattle.connection_laws.proofs.Said.{Among, carried_facts}
+use Rattle.connection_laws.proofs.PacketsSay.{IsIn, carried_facts}
 use Rattle.recovery_laws.specs.Faithful.{items_of}
 use Rattle.recovery_laws.proofs.Opening.{IsMade}
 
@@ -187,13 +187,13 @@ fit_behind : (end : End) (later past : Past) → DeedsFit end (later ++ past) �
 fit_behind end [] past fit = fit
 fit_behind end (deed ∷ later) past fit = fit_behind end later past fit.1
 
-pub made_when_carried : (v : Version) (end : End) (past : Past) → DeedsFit end past → (ch n j k : ℕ) (b : Bunch) → Among (Holds (Carries ch n b)) (said_by v past j) → j ≤ k → 1 ≤ k → k ≤ last_sent past → n ≤ made_before past k ch
+pub made_when_carried : (v : Version) (end : End) (past : Past) → DeedsFit end past → (ch n j k : ℕ) (b : Bunch) → IsIn (SaysItem (Carries ch n b)) (said_by v past j) → j ≤ k → 1 ≤ k → k ≤ last_sent past → n ≤ made_before past k ch
 made_when_carried v end past fit ch n j k b h le lo hi = by (sent_at end past fit k lo hi)
   where
     by : SentAt past k → n ≤ made_before past k ch
     by s =
         let f : DeedsFit end (s.later ++ Sent k s.tick s.items ∷ s.earlier) = subst (DeedsFit end) s.split fit in
-        let said : Among (Holds (Carries ch n b)) (said_by v (Sent k s.tick s.items ∷ s.earlier) j) =
-        subst (Among (Holds (Carries ch n b))) (said_at v end s.later k s.tick s.items s.earlier f j le) (subst (λ (p : Past). Among (Holds (Carries ch n b)) (said_by v p j)) s.split h) in
+        let said : IsIn (SaysItem (Carries ch n b)) (said_by v (Sent k s.tick s.items ∷ s.earlier) j) =
+        subst (IsIn (SaysItem (Carries ch n b))) (said_at v end s.later k s.tick s.items s.earlier f j le) (subst (λ (p : Past). IsIn (SaysItem (Carries ch n b)) (said_by v p j)) s.split h) in
         let c = carried_facts end v (Sent k s.tick s.items ∷ s.earlier) (fit_behind end s.later (Sent k s.tick s.items ∷ s.earlier) f) ch n j b said in
         omega (arith, c.high, ap (λ (p : Past). made_before p k ch) s.split, made_before_at end s.later k s.tick s.items s.earlier f ch)

@@ -12,14 +12,14 @@ use Rattle.connection_model.specs.Bunches.{is_closing, is_sleeping}
 use Rattle.connection_model.specs.State.{Mark, mark_in}
 use Rattle.connection_model.specs.Copies.{delivered_of}
 use Rattle.connection_laws.specs.Run.{IsRun}
-use Rattle.connection_laws.specs.Delivered.{Numbered, payload_of, HandsReceived}
-use Rattle.connection_laws.proofs.Said.{Among, all_at, in_middle}
+use Rattle.connection_laws.specs.Delivered.{on_index, Numbered, payload_of, HandsReceived}
+use Rattle.connection_laws.proofs.PacketsSay.{IsIn, all_at, in_middle}
 use Rattle.connection_laws.proofs.Spans.{some_parts}
 use Rattle.headline_laws.specs.Follows.{parts_in}
-use Rattle.headline_laws.specs.Whole.{on_index, IsReceived}
+use Rattle.headline_laws.specs.Whole.{IsReceived}
 use Rattle.headline_laws.specs.Marks.{marks_of, without_newest, MarkComes, MarksCome, ClosesReceived}
-use Rattle.headline_laws.proofs.Whole.{InRow, rows, longer}
-use Rattle.headline_laws.proofs.Clear.{row_at, parts_append}
+use Rattle.headline_laws.proofs.WholeMessages.{InRow, rows, longer}
+use Rattle.headline_laws.proofs.ReceivedFirst.{row_at, parts_append}
 use Rattle.headline_laws.proofs.Reopened.{marks_it}
 use Rattle.recovery_laws.proofs.Handing.{same_end, from_index, all_second}
 use Rattle.recovery_laws.proofs.Taken.{handed_count, index_append}
@@ -124,7 +124,7 @@ module _ (end right : End) (server client : Past) (run : IsRun end server) (hand
       by (Calls b n k vs) e c f ih = absurd c
 
 -- a mark on an index is among the actor's
-index_mark : (a c : ℕ) (x : Numbered) → marks_it a x.1 ≡ true → (past : Past) → Among x (on_index c past) → Among (record { channel = c; number = x.0; message = x.1 }) (marks_of past a)
+index_mark : (a c : ℕ) (x : Numbered) → marks_it a x.1 ≡ true → (past : Past) → IsIn x (on_index c past) → IsIn (record { channel = c; number = x.0; message = x.1 }) (marks_of past a)
 index_mark a c x it [] h = absurd h
 index_mark a c x it (Ticked t s ∷ past) h = index_mark a c x it past h
 index_mark a c x it (Waits m ∷ past) h = index_mark a c x it past h
@@ -133,18 +133,18 @@ index_mark a c x it (Took n es ds ∷ past) h = index_mark a c x it past h
 index_mark a c x it (Ended g ∷ past) h = index_mark a c x it past h
 index_mark a c x it (Made d n m i ∷ past) h = by ((d == c) && (i == 0)) refl h (λ q. index_mark a c x it past q)
   where
-    later : Among (record { channel = c; number = x.0; message = x.1 }) (marks_of past a) → (o : Option Mark) → Among (record { channel = c; number = x.0; message = x.1 }) (cons_option o (marks_of past a))
+    later : IsIn (record { channel = c; number = x.0; message = x.1 }) (marks_of past a) → (o : Option Mark) → IsIn (record { channel = c; number = x.0; message = x.1 }) (cons_option o (marks_of past a))
     later h None = h
     later h (Some k) = inr h
 
-    by : (t : Bool) → ((d == c) && (i == 0)) ≡ t → Among x (cons_option (then_some t (let y : Numbered = (n, m) in y)) (on_index c past)) → (Among x (on_index c past) → Among (record { channel = c; number = x.0; message = x.1 }) (marks_of past a))
-        → Among (record { channel = c; number = x.0; message = x.1 }) (cons_option (then_some (marks_it a m && (i == 0)) (let k : Mark = record { channel = d; number = n; message = m } in k)) (marks_of past a))
+    by : (t : Bool) → ((d == c) && (i == 0)) ≡ t → IsIn x (cons_option (then_some t (let y : Numbered = (n, m) in y)) (on_index c past)) → (IsIn x (on_index c past) → IsIn (record { channel = c; number = x.0; message = x.1 }) (marks_of past a))
+        → IsIn (record { channel = c; number = x.0; message = x.1 }) (cons_option (then_some (marks_it a m && (i == 0)) (let k : Mark = record { channel = d; number = n; message = m } in k)) (marks_of past a))
     by false t h ih = later (ih h) (then_some (marks_it a m && (i == 0)) (record { channel = d; number = n; message = m }))
     by true t (inr h) ih = later (ih h) (then_some (marks_it a m && (i == 0)) (record { channel = d; number = n; message = m }))
     by true t (inl e) ih =
         let p = and_parts (d == c) (i == 0) t in
         let marks : marks_it a m ≡ true = ap (λ (y : Numbered). marks_it a y.1) e ∙ it in
-        subst (λ (b : Bool). Among (record { channel = c; number = x.0; message = x.1 }) (cons_option (then_some b (let k : Mark = record { channel = d; number = n; message = m } in k)) (marks_of past a)))
+        subst (λ (b : Bool). IsIn (record { channel = c; number = x.0; message = x.1 }) (cons_option (then_some b (let k : Mark = record { channel = d; number = n; message = m } in k)) (marks_of past a)))
         (sym (and_from (marks_it a m) (i == 0) marks p.1))
         (inl (ap (λ (y : ℕ). record { channel = y; number = n; message = m }) (eqb-true d c p.0) ∙ ap (λ (y : Numbered). record { channel = c; number = y.0; message = y.1 }) e))
 
@@ -179,7 +179,7 @@ module _ (left right : End) (server client : Past) (run : IsRun left server) (ha
   -- each mark made before the open was handed on
   pub old_marks : (c : ℕ) (before : List Numbered) (x : Numbered) (after : List Numbered) → on_index c older ≡ before ++ x ∷ after → marks_it a x.1 ≡ true → length after < length (from_index c (delivered_of client))
   old_marks c before x after e it =
-      let among : Among x (on_index c older) = subst (Among x) (sym e) (in_middle x before after) in
+      let among : IsIn x (on_index c older) = subst (IsIn x) (sym e) (in_middle x before after) in
       let covered : Covered server client (record { channel = c; number = x.0; message = x.1 }) = all_at (Covered server client) (record { channel = c; number = x.0; message = x.1 }) (marks_of older a) all_covered (index_mark a c x it older among) in
       let front : Past = newer ++ Made ch n (Opens exports a class values) 0 ∷ [] in
       let whole : on_index c server ≡ (on_index c front ++ before) ++ x ∷ after =

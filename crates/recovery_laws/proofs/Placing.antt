@@ -8,12 +8,11 @@ use Rattle.connection_model.specs.Feed.{End, Past, Deed, Ticked, Made, Waits, Se
 use Rattle.connection_model.specs.Bunches.{made_count, after_making}
 use Rattle.connection_laws.specs.Run.{Move, Ticks, Makes, Defers, Sends, Takes, Hears, Hands, Ends, after_move, May, MayMake, HasPlace, IsRun}
 use Rattle.connection_laws.specs.Deeds.{EachDeed}
-use Rattle.connection_laws.specs.Delivered.{Numbered}
+use Rattle.connection_laws.specs.Delivered.{on_index, Numbered}
 use Rattle.connection_laws.proofs.Moves.{making_keeps, told_keeps, handed_keeps}
 use Rattle.connection_laws.proofs.Deeds.{always}
 use Rattle.connection_laws.proofs.Spans.{some_parts}
-use Rattle.connection_laws.proofs.Said.{Among}
-use Rattle.headline_laws.specs.Whole.{on_index}
+use Rattle.connection_laws.proofs.PacketsSay.{IsIn}
 
 abbrev pub DeedPlaced : End → Past → Deed → Type 0
 DeedPlaced end past (Made ch n m i) = i ≡ 0 → HasPlace end past ch m
@@ -65,7 +64,7 @@ pub record MadeIn (past : Past) (ch : ℕ) (made : Numbered) : Type 0 where
 made_behind : (past : Past) (ch : ℕ) (made : Numbered) (deed : Deed) → MadeIn past ch made → MadeIn (deed ∷ past) ch made
 made_behind past ch made deed m = record { newer = deed ∷ m.newer; older = m.older; split = ap (λ (l : Past). deed ∷ l) m.split }
 
-pub made_in : (past : Past) (ch : ℕ) (made : Numbered) → Among made (on_index ch past) → MadeIn past ch made
+pub made_in : (past : Past) (ch : ℕ) (made : Numbered) → IsIn made (on_index ch past) → MadeIn past ch made
 made_in [] ch made h = absurd h
 made_in (Ticked t s ∷ past) ch made h = made_behind past ch made (Ticked t s) (made_in past ch made h)
 made_in (Waits m ∷ past) ch made h = made_behind past ch made (Waits m) (made_in past ch made h)
@@ -74,7 +73,7 @@ made_in (Took n es ds ∷ past) ch made h = made_behind past ch made (Took n es 
 made_in (Ended g ∷ past) ch made h = made_behind past ch made (Ended g) (made_in past ch made h)
 made_in (Made c n m i ∷ past) ch made h = by ((c == ch) && (i == 0)) refl h (λ q. made_in past ch made q)
   where
-    by : (t : Bool) → ((c == ch) && (i == 0)) ≡ t → Among made (cons_option (then_some t (let x : Numbered = (n, m) in x)) (on_index ch past)) → (Among made (on_index ch past) → MadeIn past ch made) → MadeIn (Made c n m i ∷ past) ch made
+    by : (t : Bool) → ((c == ch) && (i == 0)) ≡ t → IsIn made (cons_option (then_some t (let x : Numbered = (n, m) in x)) (on_index ch past)) → (IsIn made (on_index ch past) → MadeIn past ch made) → MadeIn (Made c n m i ∷ past) ch made
     by false t h ih = made_behind past ch made (Made c n m i) (ih h)
     by true t (inr h) ih = made_behind past ch made (Made c n m i) (ih h)
     by true t (inl e) ih =

@@ -12,20 +12,19 @@ use Rattle.table_model.specs.Grammar.{table_of}
 use Rattle.replication_model.specs.Headline.{HasJoined, IsHonest, CopiesSettled, Holds}
 use Rattle.replication_model.specs.Story.{Player, story_of, end_of, past_at}
 use Rattle.connection_laws.specs.Honest.{IsTalking}
-use Rattle.connection_laws.proofs.Scripts.{talks_honestly}
+use Rattle.connection_laws.proofs.StoriesTalk.{talks_honestly}
 use Rattle.payload_laws.specs.Accepted.{AreAccepted}
-use Rattle.headline_laws.proofs.Prefixes.{feeds_fit, players_agree, hands_over}
+use Rattle.headline_laws.proofs.CallPrefixes.{feeds_fit, players_agree, hands_over}
 use Rattle.headline_laws.proofs.Stories.{all_read}
 use Rattle.headline_laws.specs.Read.{AreRead}
 use Rattle.headline_laws.proofs.ReadLines.{Stands, stands}
 use Rattle.connection_laws.proofs.Deeds.{deeds_fit}
 use Rattle.connection_laws.proofs.Feeds.{feed_runs}
-use Rattle.recovery_laws.specs.Promise.{CopiesSleeping}
+use Rattle.recovery_laws.specs.Asleep.{CopiesSleeping, SleepsAsSeen}
 use Rattle.recovery_laws.proofs.Promised.{as_promised}
 use Rattle.headline_laws.proofs.StorySights.{player_shown}
 use Rattle.recovery_laws.specs.Faithful.{IsFaithfulTalk}
 use Rattle.recovery_laws.proofs.Applying.{applies_talk}
-use Rattle.recovery_laws.specs.Asleep.{SleepsAsSeen}
 use Rattle.recovery_laws.specs.Initial.{IsInitial, LastOpen}
 use Rattle.recovery_laws.proofs.Copied.{settled_copied}
 use Rattle.recovery_laws.proofs.Sleeping.{sleeps_as_seen}

@@ -12,8 +12,7 @@ use Rattle.connection_model.specs.Feed.{End, Past, Deed, Ticked, Made, Waits, Se
 use Rattle.connection_model.specs.State.{Mark, mark_in}
 use Rattle.connection_laws.specs.Deeds.{DeedsFit}
 use Rattle.payload_laws.proofs.Bounds.{close_parts}
-use Rattle.recovery_laws.specs.Asleep.{SleepsAsSeen}
-use Rattle.recovery_laws.specs.Promise.{slept_as, IsCopiedAsleep}
+use Rattle.recovery_laws.specs.Asleep.{SleepsAsSeen, slept_as, IsCopiedAsleep}
 
 -- the last dormant close is the one with no mark after it
 slept_by : (end : End) (a : ℕ) (newer : Past) (ch n : ℕ) (older : Past) → DeedsFit end (newer ++ Made ch n (Closes a true) 0 ∷ older) → AllByRecursion (λ (d : Deed). mark_in a d ≡ None) newer

@@ -15,8 +15,8 @@ use Rattle.connection_model.specs.Carry.{value_in_update, due_pairs, is_due_pair
 use Rattle.connection_model.specs.Items.{update_message, update_pairs}
 use Rattle.connection_laws.specs.Run.{MaySend, UpdatesSeen}
 use Rattle.connection_laws.specs.Deeds.{DeedsFit}
-use Rattle.connection_laws.proofs.Shown.{all_filtered}
-use Rattle.connection_laws.proofs.Said.{all_at}
+use Rattle.connection_laws.proofs.ActorsShown.{all_filtered}
+use Rattle.connection_laws.proofs.PacketsSay.{all_at}
 use Rattle.payload_laws.proofs.SightSpelling.{from}
 use Rattle.payload_laws.proofs.WorldValues.{same_some}
 use Rattle.headline_laws.specs.Sights.{sight_in, sights_of, Seeing}

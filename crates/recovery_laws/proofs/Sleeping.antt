@@ -26,24 +26,23 @@ use Rattle.table_model.specs.Rules.{Entry as TableEntry}
 use Rattle.table_model.specs.Grammar.{table_of}
 use Rattle.connection_laws.specs.Run.{IsRun, HasPlace}
 use Rattle.connection_laws.specs.Deeds.{DeedsFit}
-use Rattle.connection_laws.specs.Delivered.{Numbered, messages_on, payload_of}
+use Rattle.connection_laws.specs.Delivered.{on_index, Numbered, messages_on, payload_of}
 use Rattle.connection_laws.proofs.Deeds.{each_at}
 use Rattle.connection_laws.proofs.Arrivals.{arrived_is_moved}
 use Rattle.connection_laws.proofs.InTurn.{open_holds_it, brackets_fit}
 use Rattle.connection_laws.proofs.Items.{all_append}
-use Rattle.connection_laws.proofs.Linked.{left_run}
-use Rattle.connection_laws.proofs.Between.{receives_there}
+use Rattle.connection_laws.proofs.LinkedEnds.{left_run}
+use Rattle.connection_laws.proofs.LinkLaws.{receives_there}
 use Rattle.connection_model.specs.Windows.{wholes_of}
-use Rattle.connection_laws.proofs.Said.{Among, in_left, in_right, in_middle, all_at}
+use Rattle.connection_laws.proofs.PacketsSay.{IsIn, in_left, in_right, in_middle, all_at}
 use Rattle.payload_laws.specs.Accepted.{AreAccepted}
 use Rattle.payload_laws.proofs.Bounds.{close_parts}
-use Rattle.headline_laws.specs.Whole.{on_index}
 use Rattle.headline_laws.specs.Sights.{sight_in, sights_of, Seeing}
-use Rattle.headline_laws.proofs.Whole.{longer}
-use Rattle.headline_laws.proofs.Clear.{arrived_each}
-use Rattle.headline_laws.proofs.Order.{marks_come}
+use Rattle.headline_laws.proofs.WholeMessages.{longer}
+use Rattle.headline_laws.proofs.ReceivedFirst.{arrived_each}
+use Rattle.headline_laws.proofs.MarksInOrder.{marks_come}
 use Rattle.headline_laws.proofs.Reopened.{marks_it, closes_received}
-use Rattle.headline_laws.proofs.Says.{found_in}
+use Rattle.headline_laws.proofs.ServerSays.{found_in}
 use Rattle.headline_laws.proofs.Sights.{seeing_later}
 use Rattle.recovery_laws.specs.Faithful.{IsFaithfulTalk}
 use Rattle.recovery_laws.specs.Initial.{IsQuietOf}
@@ -123,7 +122,7 @@ index_quiet a c (Made d n m i ∷ past) h = by ((d == c) && (i == 0)) refl (inde
 
 -- ---- lists
 
-among_split : {A : Type 0} (x : A) (xs : List A) → Among x xs → (front : List A) × ((back : List A) × (xs ≡ front ++ x ∷ back))
+among_split : {A : Type 0} (x : A) (xs : List A) → IsIn x xs → (front : List A) × ((back : List A) × (xs ≡ front ++ x ∷ back))
 among_split x [] h = absurd h
 among_split {A} x (y ∷ xs) (inl e) = ([], (xs, ap (λ (z : A). z ∷ xs) e))
 among_split {A} x (y ∷ xs) (inr h) = (let r = among_split x xs h in (y ∷ r.0, (r.1.0, ap (λ (l : List A). y ∷ l) r.1.1)))
@@ -310,7 +309,7 @@ module _ (entries : List TableEntry) (is : IsTable entries) (left right : End) (
             among_from (λ (x : Delivered). QuietSaid a x.message) o.channel at.after
             (later_handed (QuietSaid a) (past_of left l) (past_of right r) o.channel (trail_of o.channel) (on_index o.channel o.newer) (o.number, Opens o.exports a o.class o.values) (on_index o.channel o.older)
             (opened_index (past_of left l) a o) (quiet o.channel) at.after (at.delivered ∷ at.before) at.split few)
-            d (subst (Among d) (sym e) (in_middle d front back)) (and_from (d.channel == o.channel) d.reliable (eq-eqb d.channel o.channel (sym c)) rel)
+            d (subst (IsIn d) (sym e) (in_middle d front back)) (and_from (d.channel == o.channel) d.reliable (eq-eqb d.channel o.channel (sym c)) rel)
 
         elsewhere : (o.channel ≡ d.channel → ⊥) → PlaceOf (past_of left l) d.channel d.message (length (from_index d.channel (back ++ at.delivered ∷ at.before))) → QuietSaid a d.message
         elsewhere ne p = elim (cases_lt (length p.older) (length (on_index d.channel o.older))) [
@@ -321,7 +320,7 @@ module _ (entries : List TableEntry) (is : IsTable entries) (left right : End) (
               let long : on_index d.channel o.newer ++ on_index d.channel o.older ≡ (p.newer ++ p.made ∷ []) ++ p.older = sym (other_index (past_of left l) a o d.channel ne) ∙ p.split ∙ sym (again p.newer p.made p.older) in
               let m = longer (on_index d.channel o.newer) (on_index d.channel o.older) (p.newer ++ p.made ∷ []) p.older long
               (omega (arith, ge, ap length long, length-append (on_index d.channel o.newer) (on_index d.channel o.older), length-append (p.newer ++ p.made ∷ []) p.older)) in
-              let inside : Among p.made (on_index d.channel o.newer) = subst (Among p.made) (sym m.1) (in_left p.made (p.newer ++ p.made ∷ []) m.0 (in_right p.made p.newer (p.made ∷ []) (inl refl))) in
+              let inside : IsIn p.made (on_index d.channel o.newer) = subst (IsIn p.made) (sym m.1) (in_left p.made (p.newer ++ p.made ∷ []) m.0 (in_right p.made p.newer (p.made ∷ []) (inl refl))) in
               subst (QuietSaid a) (sym p.is) (all_at (λ (x : Numbered). QuietSaid a x.1) p.made (on_index d.channel o.newer) (quiet d.channel) inside))
         ]
           where
@@ -348,7 +347,7 @@ module _ (entries : List TableEntry) (is : IsTable entries) (left right : End) (
         by false rel =
             plain_quiet a d.message
             (all_at (λ (x : Delivered). x.reliable ≡ false → IsPlain x.message) d (delivered_of (past_of right r)) (plainly_handed left (past_of left l) server_fit (past_of right r) t.faithful.loose)
-            (subst (Among d) (sym whole) (in_middle d front (back ++ at.delivered ∷ at.before))) rel)
+            (subst (IsIn d) (sym whole) (in_middle d front (back ++ at.delivered ∷ at.before))) rel)
         by true rel = elim (cases_eq o.channel d.channel) [
           | inl c ↦ here c rel
           | inr ne ↦ elsewhere ne (handed_place (past_of left l) (past_of right r) d.channel (trail_of d.channel) front d (back ++ at.delivered ∷ at.before) whole

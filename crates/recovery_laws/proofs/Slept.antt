@@ -19,7 +19,7 @@ use Rattle.connection_laws.proofs.Searches.{newest_miss, among_right}
 use Rattle.recovery_laws.proofs.Opening.{begins_open}
 use Rattle.recovery_laws.proofs.Newest.{newest_miss_all}
 use Rattle.recovery_laws.proofs.Carried.{update_opened}
-use Rattle.connection_laws.proofs.Said.{Among, all_at}
+use Rattle.connection_laws.proofs.PacketsSay.{IsIn, all_at}
 
 -- ---- the last mark is a dormant close
 
@@ -208,7 +208,7 @@ module _ (end : End) (a ch n : ℕ) (older : Past) where
           by None e = refl
           by (Some v) e = absurd (false≢true (sym shut ∙ update_opened end (newer ++ Made ch n (Closes a true) 0 ∷ older) a h item v e may))
 
-      nothing : (items : List Item) → ((item : Item) → Among item items → MaySend end (newer ++ Made ch n (Closes a true) 0 ∷ older) item) → newest_of (value_in_update a h) items ≡ None
+      nothing : (items : List Item) → ((item : Item) → IsIn item items → MaySend end (newer ++ Made ch n (Closes a true) 0 ∷ older) item) → newest_of (value_in_update a h) items ≡ None
       nothing [] may = refl
       nothing (item ∷ items) may = newest_miss (value_in_update a h) item items (one item (may item (inl refl))) ∙ nothing items (λ i q. may i (inr q))
 

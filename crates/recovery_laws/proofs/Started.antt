@@ -16,13 +16,12 @@ use Rattle.table_model.specs.Facts.{IsTable}
 use Rattle.table_model.specs.Rules.{Entry}
 use Rattle.table_model.specs.Grammar.{table_of}
 use Rattle.connection_laws.specs.Run.{OpensSeen, HasPlace}
-use Rattle.connection_laws.specs.Delivered.{Numbered}
+use Rattle.connection_laws.specs.Delivered.{on_index, Numbered}
 use Rattle.connection_laws.proofs.Deeds.{each_at}
 use Rattle.connection_laws.proofs.InTurn.{brackets_fit}
 use Rattle.connection_laws.proofs.Items.{all_append, all_weaker}
-use Rattle.connection_laws.proofs.Said.{Among, all_at, in_middle, in_right}
+use Rattle.connection_laws.proofs.PacketsSay.{IsIn, all_at, in_middle, in_right}
 use Rattle.payload_laws.specs.Accepted.{AreAccepted}
-use Rattle.headline_laws.specs.Whole.{on_index}
 use Rattle.headline_laws.specs.Sights.{sights_of, Seeing}
 use Rattle.recovery_laws.specs.Faithful.{items_of, IsFaithfulTalk}
 use Rattle.recovery_laws.specs.Initial.{IsInitial, LastOpen}
@@ -39,7 +38,7 @@ use Rattle.recovery_laws.proofs.Initials.{nothing_initial, entry_has, relevant_s
 -- a message that was made on the index
 record IsMadeOn (past : Past) (ch : ℕ) (m : Message) : Type 0 where
   made : Numbered
-  among : Among made (on_index ch past)
+  among : IsIn made (on_index ch past)
   is : m ≡ made.1
 
 -- an open that the sight shows
@@ -91,12 +90,12 @@ module _ (entries : List Entry) (is : IsTable entries) (left right : End) (l r :
       made_on c false q =
           absurd (subst IsPlain c.opens (all_at (λ (d : Delivered). d.reliable ≡ false → IsPlain d.message) c.delivered (delivered_of (past_of right r))
           (plainly_handed left (past_of left l) (fit left right l r player edits segments t) (past_of right r) t.faithful.loose)
-          (subst (Among c.delivered) (sym c.split) (in_middle c.delivered c.after c.before)) q))
+          (subst (IsIn c.delivered) (sym c.split) (in_middle c.delivered c.after c.before)) q))
       made_on c true q =
           among_from (λ (d : Delivered). IsMadeOn (past_of left l) ch d.message) ch (delivered_of (past_of right r))
           (all_handed (IsMadeOn (past_of left l) ch) (past_of left l) (past_of right r) ch (trails left right l r player edits segments t ch)
           (all_by_among (λ (x : Numbered). IsMadeOn (past_of left l) ch x.1) (on_index ch (past_of left l)) (λ x h. record { made = x; among = h; is = refl })))
-          c.delivered (subst (Among c.delivered) (sym c.split) (in_middle c.delivered c.after c.before))
+          c.delivered (subst (IsIn c.delivered) (sym c.split) (in_middle c.delivered c.after c.before))
           (and_from (c.delivered.channel == ch) c.delivered.reliable (eq-eqb c.delivered.channel ch c.channel) q)
 
       by : ChannelBy a ch (delivered_of (past_of right r)) → LastOpen (table_of entries) player edits (past_of left l) (past_of right r) a ch

@@ -16,17 +16,17 @@ use Rattle.connection_model.specs.Windows.{received_on, wholes_of}
 use Rattle.connection_model.specs.Copies.{delivered_of}
 use Rattle.connection_laws.specs.Run.{IsRun}
 use Rattle.connection_laws.specs.Deeds.{FitsBefore, DeedsFit}
-use Rattle.connection_laws.specs.Delivered.{Numbered, numbered_in, messages_on, payload_of, handed_reliably, HandsReceived}
+use Rattle.connection_laws.specs.Delivered.{on_index, Numbered, numbered_in, messages_on, payload_of, handed_reliably, HandsReceived}
 use Rattle.connection_laws.proofs.Deeds.{deeds_fit}
 use Rattle.connection_laws.proofs.Searches.{among_cons, among_here, among_there, among_most}
 use Rattle.connection_laws.proofs.Items.{all_append}
 use Rattle.connection_laws.proofs.Receiving.{has}
-use Rattle.connection_laws.proofs.Linked.{Both, both, left_run, right_run}
-use Rattle.connection_laws.proofs.Between.{applies_there, receives_there}
-use Rattle.headline_laws.specs.Whole.{on_index, ArrivedBelow}
-use Rattle.headline_laws.proofs.Clear.{arrived_each, open_arrived}
+use Rattle.connection_laws.proofs.LinkedEnds.{Both, both, left_run, right_run}
+use Rattle.connection_laws.proofs.LinkLaws.{applies_there, receives_there}
+use Rattle.headline_laws.specs.Whole.{ArrivedBelow}
+use Rattle.headline_laws.proofs.ReceivedFirst.{arrived_each, open_arrived}
 use Rattle.recovery_laws.specs.Faithful.{AppliesPacket, AppliesLoose}
-use Rattle.headline_laws.proofs.Came.{came, CameIn}
+use Rattle.headline_laws.proofs.CameInPackets.{came, CameIn}
 use Rattle.recovery_laws.proofs.Grows.{Moment}
 use Rattle.recovery_laws.proofs.Known.{arrivals_stay, read_lengths, received_count, first_received}
 use Rattle.recovery_laws.proofs.Opening.{begins_open, OpenedAt}

@@ -17,14 +17,17 @@ IsQuietOf a d = (removes a d ≡ false) × (class_opened a d ≡ None)
 abbrev pub IsInitial : Class → (handle : ℕ) → Type 0
 IsInitial class h = (prop : Prop) × (prop_at class h ≡ Some prop) × (prop.cond ≡ InitialOnly)
 
--- the open of the actor that the client applied last, with no removal after it: where the server made it, and the
--- world that the server saw at that tick
-pub record LastOpen (table : Table) (player : ℕ) (edits : Edits) (server client : Past) (actor channel : ℕ) : Type 0 where
+-- the open of the actor that the client applied last, with no removal after it: where the server
+-- made it, and the world that the server saw at that tick
+pub record LastOpen (table : Table) (player : ℕ) (edits : Edits) (server client : Past)
+    (actor channel : ℕ) : Type 0 where
+  -- no payload that was handed on after it opens or removes the copy
   pub after : List Delivered
   pub delivered : Delivered
   pub before : List Delivered
   pub split : delivered_of client ≡ after ++ delivered ∷ before
   pub quiet : AllByRecursion (IsQuietOf actor) after
+  -- it is an open, and the server made it on the channel
   pub number : ℕ
   pub exports : List Segment
   pub class : Class
@@ -33,6 +36,7 @@ pub record LastOpen (table : Table) (player : ℕ) (edits : Edits) (server clien
   pub newer : Past
   pub older : Past
   pub made : server ≡ newer ++ Made channel number (Opens exports actor class values) 0 ∷ older
+  -- at a tick whose sight is the player's of a world that has since grown to these edits
   pub more : Edits
   pub world : Edits
   pub earlier : List ℕ
