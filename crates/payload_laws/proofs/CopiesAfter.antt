@@ -3,6 +3,7 @@ use Rattle.std.proofs.Common.{◌≡◌, ℕ, ℤ, pos, ◌==◌, List, [], ◌�
 use Rattle.std.specs.List.{fold, flat_map}
 use Rattle.std.proofs.lemmas.List.{reverse-append}
 use Rattle.std.proofs.lemmas.List.Concat.{flat_map-append}
+use Rattle.std.proofs.lemmas.Bool.{eq-eqb}
 use Rattle.protocol_model.specs.Search.{newest_of, items_since}
 use Rattle.protocol_model.specs.Value.{Segment, Class, Call, Arg, Pair, value_among, initial_value}
 use Rattle.protocol_model.specs.Payload.{Message, Opens, Closes, Updates, Calls, Gone, actor_of}
@@ -10,7 +11,6 @@ use Rattle.connection_model.specs.Feed.{Past, Delivered}
 use Rattle.connection_model.specs.Names.{names_in, names_with, names_of}
 use Rattle.connection_model.specs.Copies.{delivered_of, removes, since_removed, class_opened, copy_class, channel_said, copy_channel, value_applied, copy_value}
 use Rattle.payload_laws.specs.Applied.{Applied, Stays}
-use Rattle.payload_laws.proofs.Tests.{same_is}
 
 -- ---- the newest item
 
@@ -62,7 +62,7 @@ value_same past later d a h e r c k =
 -- ---- what each message says
 
 itself : (a : ℕ) → (a == a) ≡ true
-itself a = same_is a a refl
+itself a = eq-eqb a a refl
 
 pub opens_keeps : (d : Delivered) (exports : List Segment) (actor : ℕ) (class : Class) (values : List Pair) (a : ℕ) → d.message ≡ Opens exports actor class values → removes a d ≡ false
 opens_keeps d exports actor class values a m = rw m refl

@@ -2,12 +2,12 @@
 use Rattle.std.proofs.Common.{◌≡◌, ◌≢◌, ℕ, ◌==◌, List, [], ◌∷◌, Bool, true, false, ◌||◌, cond, nat_lt, Option, Some, None, is_some, filter, find, refl, sym, ap, ◌∙◌}
 use Rattle.std.specs.Bool.{then_some}
 use Rattle.std.specs.List.{filter_map, cons_option}
+use Rattle.std.proofs.lemmas.Bool.{eqb-true, eq-eqb}
 use Rattle.protocol_model.specs.Search.{is_among, newest_of, items_since, insert_in_order, in_order, each_once, ascending_numbers}
 use Rattle.protocol_model.specs.Value.{Class}
 use Rattle.protocol_model.specs.Payload.{Message, Opens, Closes, Updates, Calls, Gone}
 use Rattle.connection_model.specs.Feed.{Past, Delivered}
 use Rattle.connection_model.specs.Copies.{delivered_of, removes, class_opened, has_copy, copy_channel, actor_opened, copied_actors, is_on, copy_on}
-use Rattle.payload_laws.proofs.Tests.{same_of, same_is}
 
 -- ---- lists of numbers
 
@@ -38,7 +38,7 @@ among_once a [] h = h
 among_once a (n ∷ ns) h = by_test (is_among n ns) refl (n == a) refl h (λ k. among_once a ns k)
   where
     by_test : (b : Bool) → is_among n ns ≡ b → (t : Bool) → (n == a) ≡ t → (t || is_among a ns) ≡ true → (is_among a ns ≡ true → is_among a (each_once ns) ≡ true) → is_among a (cond b (each_once ns) (n ∷ each_once ns)) ≡ true
-    by_test true e true t h later = later (ap (λ (k : ℕ). is_among k ns) (sym (same_of n a t)) ∙ e)
+    by_test true e true t h later = later (ap (λ (k : ℕ). is_among k ns) (sym (eqb-true n a t)) ∙ e)
     by_test true e false t h later = later h
     by_test false e true t h later = rw t refl
     by_test false e false t h later = or_right (n == a) (is_among a (each_once ns)) (later h)
@@ -50,7 +50,7 @@ among_filter p a (n ∷ ns) h t = by_test (p n) refl (n == a) refl h (λ k. amon
     by_test : (b : Bool) → p n ≡ b → (s : Bool) → (n == a) ≡ s → (s || is_among a ns) ≡ true → (is_among a ns ≡ true → is_among a (filter p ns) ≡ true) → is_among a (cond b (n ∷ filter p ns) (filter p ns)) ≡ true
     by_test true e true s h later = rw s refl
     by_test true e false s h later = or_right (n == a) (is_among a (filter p ns)) (later h)
-    by_test false e true s h later = let no : true ≡ false = sym t ∙ ap p (sym (same_of n a s)) ∙ e in absurd (cc)
+    by_test false e true s h later = let no : true ≡ false = sym t ∙ ap p (sym (eqb-true n a s)) ∙ e in absurd (cc)
     by_test false e false s h later = later h
 
 -- each that is left passes
@@ -59,7 +59,7 @@ filter_passes p a [] h = absurd (cc)
 filter_passes p a (n ∷ ns) h = by_test (p n) refl h (λ k. filter_passes p a ns k)
   where
     by_here : (s : Bool) → (n == a) ≡ s → p n ≡ true → (s || is_among a (filter p ns)) ≡ true → (is_among a (filter p ns) ≡ true → p a ≡ true) → p a ≡ true
-    by_here true s e h later = ap p (sym (same_of n a s)) ∙ e
+    by_here true s e h later = ap p (sym (eqb-true n a s)) ∙ e
     by_here false s e h later = later h
 
     by_test : (b : Bool) → p n ≡ b → is_among a (cond b (n ∷ filter p ns) (filter p ns)) ≡ true → (is_among a (filter p ns) ≡ true → p a ≡ true) → p a ≡ true
@@ -72,11 +72,11 @@ find_one test a [] h t one = absurd (cc)
 find_one test a (n ∷ ns) h t one = by_test (test n) refl (n == a) refl h (λ k. find_one test a ns k t (λ b m u. one b (or_right (n == b) (is_among b ns) m) u))
   where
     here : is_among n (n ∷ ns) ≡ true
-    here = rw (same_is n n refl) refl
+    here = rw (eq-eqb n n refl) refl
 
     by_test : (b : Bool) → test n ≡ b → (s : Bool) → (n == a) ≡ s → (s || is_among a ns) ≡ true → (is_among a ns ≡ true → find test ns ≡ Some a) → cond b (Some n) (find test ns) ≡ Some a
     by_test true e s q h later = ap (λ (k : ℕ). Some k) (one n here e)
-    by_test false e true q h later = let no : true ≡ false = sym t ∙ ap test (sym (same_of n a q)) ∙ e in absurd (cc)
+    by_test false e true q h later = let no : true ≡ false = sym t ∙ ap test (sym (eqb-true n a q)) ∙ e in absurd (cc)
     by_test false e false q h later = later h
 
 -- what is found stands there and passes
@@ -88,7 +88,7 @@ found_is test a (n ∷ ns) h = by_test (test n) refl h (λ k. found_is test a ns
     same x y e = cc
 
     by_test : (b : Bool) → test n ≡ b → cond b (Some n) (find test ns) ≡ Some a → (find test ns ≡ Some a → (is_among a ns ≡ true) × (test a ≡ true)) → (is_among a (n ∷ ns) ≡ true) × (test a ≡ true)
-    by_test true e h later = let is = same n a h in (rw (same_is n a is) refl, ap test (sym is) ∙ e)
+    by_test true e h later = let is = same n a h in (rw (eq-eqb n a is) refl, ap test (sym is) ∙ e)
     by_test false e h later = let l = later h in (or_right (n == a) (is_among a ns) l.0, l.1)
 
 -- ---- copies
@@ -98,7 +98,7 @@ opened_by : (a : ℕ) (d : Delivered) (message : Message) → d.message ≡ mess
 opened_by a d (Opens exports actor class values) m h = by_actor (actor == a) refl (rw m at h)
   where
     by_actor : (b : Bool) → (actor == a) ≡ b → is_some (then_some b class) ≡ true → actor_opened d ≡ Some a
-    by_actor true e h = rw m (ap (λ (n : ℕ). Some n) (same_of actor a e))
+    by_actor true e h = rw m (ap (λ (n : ℕ). Some n) (eqb-true actor a e))
     by_actor false e h = absurd (cc)
 opened_by a d (Closes actor sleeps) m h = let no : false ≡ true = rw m at h in absurd (cc)
 opened_by a d (Updates actor class values) m h = let no : false ≡ true = rw m at h in absurd (cc)
@@ -118,7 +118,7 @@ among_opened a (d ∷ ds) h = by_removed (removes a d) refl h (λ k. among_opene
     by_class None e h later = skipped (actor_opened d) (later (rw e at h))
     by_class (Some c) e h later =
         let opened : actor_opened d ≡ Some a = opened_by a d d.message refl (ap (λ (o : Option Class). is_some o) e) in
-        rw (opened, same_is a a refl) refl
+        rw (opened, eq-eqb a a refl) refl
 
     by_removed : (b : Bool) → removes a d ≡ b → is_some (newest_of (class_opened a) (cond b [] (d ∷ items_since (removes a) ds))) ≡ true → (is_some (newest_of (class_opened a) (items_since (removes a) ds)) ≡ true → is_among a (filter_map actor_opened ds) ≡ true)
         → is_among a (cons_option (actor_opened d) (filter_map actor_opened ds)) ≡ true
@@ -132,11 +132,11 @@ copied past a h =
     among_filter (has_copy past) a (ascending_numbers opened) (among_order a (each_once opened) ∙ among_once a opened (among_opened a (delivered_of past) h)) h
 
 on_is : (ch : ℕ) (o : Option ℕ) → o ≡ Some ch → is_on ch o ≡ true
-on_is ch o e = rw e (same_is ch ch refl)
+on_is ch o e = rw e (eq-eqb ch ch refl)
 
 on_of : (ch : ℕ) (o : Option ℕ) → is_on ch o ≡ true → o ≡ Some ch
 on_of ch None h = absurd (cc)
-on_of ch (Some n) h = ap (λ (k : ℕ). Some k) (same_of n ch h)
+on_of ch (Some n) h = ap (λ (k : ℕ). Some k) (eqb-true n ch h)
 
 -- the only copy on a channel holds it
 pub copy_holds : (past : Past) (ch a : ℕ) → has_copy past a ≡ true → copy_channel past a ≡ Some ch → ((b : ℕ) → has_copy past b ≡ true → copy_channel past b ≡ Some ch → b ≡ a) → copy_on past ch ≡ Some a

@@ -3,6 +3,7 @@ use Rattle.std.proofs.Common.{◌≡◌, ℕ, zero, suc, ◌<◌, ◌≤◌, ◌
 use Rattle.std.specs.Prelude.{⊤}
 use Rattle.std.specs.List.{fold, flat_map}
 use Rattle.std.proofs.lemmas.Bool.Decides.{nat_tests}
+use Rattle.std.proofs.lemmas.Bool.{eqb-true, eq-eqb, ltb-true}
 use Rattle.protocol_model.specs.Value.{Segment}
 use Rattle.table_model.specs.Facts.{IsTable}
 use Rattle.table_model.specs.Rules.{Entry, segments_of}
@@ -11,7 +12,6 @@ use Rattle.connection_model.specs.Copies.{delivered_of}
 use Rattle.connection_model.specs.Feed.{Past}
 use Rattle.payload_laws.specs.Learning.{AreAmong}
 use Rattle.payload_laws.proofs.Pigeonhole.{pigeonhole}
-use Rattle.payload_laws.proofs.Tests.{same_of, same_is, below_of}
 use Rattle.payload_laws.proofs.Learning.{found_guid}
 
 -- no guid stands twice
@@ -37,7 +37,7 @@ guid_at (s ∷ names) (suc i) = guid_at names i
 known_at : (names : List Segment) (i : ℕ) → i < length names → (t : Segment) × (name_known names (guid_at names i) ≡ Some t)
 unfolding guid_at
 known_at [] i h = absurd (omega (arith, h))
-known_at (s ∷ names) zero h = (s, rw (same_is s.guid s.guid refl) refl)
+known_at (s ∷ names) zero h = (s, rw (eq-eqb s.guid s.guid refl) refl)
 known_at (s ∷ names) (suc i) h = by_test (s.guid == guid_at names i) refl (known_at names i (omega (arith, h)))
   where
     by_test : (b : Bool) → (s.guid == guid_at names i) ≡ b → ((t : Segment) × (name_known names (guid_at names i) ≡ Some t)) → (t : Segment) × (cond b (Some s) (name_known names (guid_at names i)) ≡ Some t)
@@ -65,7 +65,7 @@ number_at entries names i is among h =
     let k = known_at names i h in
     let place = among (guid_at names i) k.0 k.1 in
     let n = is.segments.guid place.0 k.0 place.1 in
-    let same : k.0.guid ≡ guid_at names i = same_of k.0.guid (guid_at names i) (found_guid names (guid_at names i) k.0 k.1) in
+    let same : k.0.guid ≡ guid_at names i = eqb-true k.0.guid (guid_at names i) (found_guid names (guid_at names i) k.0 k.1) in
     record { number = n.0; below = n.1; is = sym same ∙ n.2 }
 
 place_of : (names : List Segment) (i : ℕ) → ℕ
@@ -79,8 +79,8 @@ order : (i j : ℕ) → (i < j → ⊥) → (j < i → ⊥) → i ≡ j
 order i j a b = by_test (nat_lt i j) (nat_lt j i) refl refl
   where
     by_test : (s t : Bool) → nat_lt i j ≡ s → nat_lt j i ≡ t → i ≡ j
-    by_test true t e f = absurd (a (below_of i j e))
-    by_test false true e f = absurd (b (below_of j i f))
+    by_test true t e f = absurd (a (ltb-true i j e))
+    by_test false true e f = absurd (b (ltb-true j i f))
     by_test false false e f = grind (arith, nat_tests)
 
 -- names that are segments of the table, each once, are at most 1,024

@@ -1,5 +1,6 @@
 -- The flags of the bunch in which a message is read are those of the message.
 use Rattle.std.proofs.Common.{◌≡◌, ◌==◌, List, Bool, true, false, not, ◌&&◌, ◌||◌, cond, nat_lt, Ok, refl, sym}
+use Rattle.std.proofs.lemmas.Bool.{and_parts}
 use Rattle.protocol_model.specs.declared.Version.{Version}
 use Rattle.protocol_model.specs.Side.{Side, AtServer, AtClient}
 use Rattle.protocol_model.specs.Value.{Table}
@@ -10,7 +11,6 @@ use Rattle.connection_model.specs.Verdict.{is_misplaced}
 use Rattle.connection_model.specs.PayloadReading.{payload_at}
 use Rattle.payload_laws.specs.Passing.{Begins}
 use Rattle.payload_laws.specs.Spelling.{KnowsLimits, Spells}
-use Rattle.payload_laws.proofs.Tests.{left_of, right_of}
 use Rattle.payload_laws.proofs.MessagesSpelled.{told, payload_spelled, payload_told}
 
 neither_left : (x y : Bool) → (x || y) ≡ false → x ≡ false
@@ -49,16 +49,16 @@ record Header (first : Bunch) : Type 0 where
 
 header_of : (version : Version) (side : Side) (b : Bunch) → is_bunch version b ≡ true → is_misplaced side b ≡ false → Header b
 header_of version side b h m =
-    let to_p = left_of _ _ (left_of _ _ h) in
-    let to_e = left_of _ _ to_p in
-    let to_c = left_of _ _ to_e in
-    let to_r = left_of _ _ to_c in
-    let to_d = left_of _ _ to_r in
+    let to_p = (and_parts _ _ (and_parts _ _ h).0).0 in
+    let to_e = (and_parts _ _ to_p).0 in
+    let to_c = (and_parts _ _ to_e).0 in
+    let to_r = (and_parts _ _ to_c).0 in
+    let to_d = (and_parts _ _ to_r).0 in
     record {
-      control = left_of _ _ to_d;
-      dormant = right_of (not (b.opens && b.closes)) _ to_d;
-      sure = right_of (not (b.opens && b.closes) && implies b.sleeps b.closes) _ to_r;
-      exports = right_of (not (b.opens && b.closes) && implies b.sleeps b.closes && implies (b.opens || b.closes) b.reliable && nat_lt b.channel (channel_limit version)) _ to_e;
+      control = (and_parts _ _ to_d).0;
+      dormant = (and_parts (not (b.opens && b.closes)) _ to_d).1;
+      sure = (and_parts (not (b.opens && b.closes) && implies b.sleeps b.closes) _ to_r).1;
+      exports = (and_parts (not (b.opens && b.closes) && implies b.sleeps b.closes && implies (b.opens || b.closes) b.reliable && nat_lt b.channel (channel_limit version)) _ to_e).1;
       zero = neither_right (b.reliable && not (b.kind == cond (b.channel == 0) 1 2)) _ (neither_left _ _ m);
     }
 
@@ -137,15 +137,15 @@ client_begins table past first bits (Gone actor) h t s =
     record { opens = r.1; closes = r.2; sleeps = p.0; exports = p.1; reliable = r.0; channel = z }
 
 server_begins : (table : Table) (past : Past) (first : Bunch) (bits : List Bool) (message : Message) → Header first → first.opens ≡ false → first.closes ≡ false → told AtServer first message ≡ true → Spells AtServer table past first bits message → Begins message first
-server_begins table past first bits (Opens exports actor class values) h o c t s = let no : false ≡ true = right_of (not (first.channel == 0)) false t in absurd (cc)
-server_begins table past first bits (Closes actor sleeps) h o c t s = let no : false ≡ true = right_of (not (first.channel == 0)) false t in absurd (cc)
-server_begins table past first bits (Gone actor) h o c t s = let no : false ≡ true = right_of (not (first.channel == 0)) false t in absurd (cc)
+server_begins table past first bits (Opens exports actor class values) h o c t s = let no : false ≡ true = (and_parts (not (first.channel == 0)) false t).1 in absurd (cc)
+server_begins table past first bits (Closes actor sleeps) h o c t s = let no : false ≡ true = (and_parts (not (first.channel == 0)) false t).1 in absurd (cc)
+server_begins table past first bits (Gone actor) h o c t s = let no : false ≡ true = (and_parts (not (first.channel == 0)) false t).1 in absurd (cc)
 server_begins table past first bits (Updates actor class values) h o c t s =
     let p = plain_begins first h o c in
-    record { opens = o; closes = c; sleeps = p.0; exports = p.1; reliable = s.1; channel = not_of (first.channel == 0) (left_of _ _ t) }
+    record { opens = o; closes = c; sleeps = p.0; exports = p.1; reliable = s.1; channel = not_of (first.channel == 0) (and_parts _ _ t).0 }
 server_begins table past first bits (Calls actor number call args) h o c t s =
     let p = plain_begins first h o c in
-    record { opens = o; closes = c; sleeps = p.0; exports = p.1; reliable = s.1; channel = not_of (first.channel == 0) (left_of _ _ t) }
+    record { opens = o; closes = c; sleeps = p.0; exports = p.1; reliable = s.1; channel = not_of (first.channel == 0) (and_parts _ _ t).0 }
 
 begins_at : (side : Side) (table : Table) (past : Past) (first : Bunch) (bits : List Bool) (message : Message) (version : Version) → is_bunch version first ≡ true → is_misplaced side first ≡ false → told side first message ≡ true → Spells side table past first bits message → Begins message first
 begins_at AtClient table past first bits message version b m t s = client_begins table past first bits message (header_of version AtClient first b m) t s

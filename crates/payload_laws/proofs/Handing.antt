@@ -1,6 +1,7 @@
 -- The parts of a message break no rule of parts, and together they hand the message on.
 use Rattle.std.proofs.Common.{◌≡◌, ℕ, zero, suc, ◌<◌, ◌≤◌, ◌+◌, ◌==◌, List, [], ◌∷◌, ◌++◌, Bool, true, false, cond, not, ◌&&◌, nat_lt, nat_le, Some, None, is_none, Ok, refl, ap, ◌∙◌, arith, length}
 use Rattle.std.proofs.lemmas.Bool.Decides.{nat_tests}
+use Rattle.std.proofs.lemmas.Bool.{le-ltb, lt-ltb, eq-eqb}
 use Rattle.protocol_model.specs.Side.{Side, AtServer, AtClient}
 use Rattle.protocol_model.specs.Packet.{Bunch}
 use Rattle.protocol_model.specs.declared.Part.TheVariants.{Whole, First, Middle, Last}
@@ -12,7 +13,7 @@ use Rattle.connection_model.specs.Copies.{copy_on}
 use Rattle.connection_model.specs.PayloadReading.{payload_at}
 use Rattle.connection_model.specs.Verdict.{lacks_copy, delivery_of, payload_result, bunch_result, bunches_result, with_handed}
 use Rattle.payload_laws.specs.Parts.{bunches_from, kept_parts}
-use Rattle.payload_laws.proofs.Tests.{not_below_is, below_is, same_is, some_is}
+use Rattle.protocol_laws.proofs.Bounds.{not_zero}
 use Rattle.payload_laws.proofs.Pieces.{counted, piece_length, part_whole, part_first, part_middle, part_last, ends_last, goes_on, kept_count, kept_first, joined_is}
 
 and_false : (x : Bool) → (x && false) ≡ false
@@ -28,30 +29,30 @@ closing_one (Calls actor number call args) h = refl
 closing_one (Gone actor) h = refl
 
 not_oversize : (ch n : ℕ) (message : Message) (i : ℕ) → nat_lt 7000 (length (made_bunch ch n message i).payload) ≡ false
-not_oversize ch n message i = not_below_is 7000 (length (piece_at (message_bits message) i)) (omega (arith, piece_length (message_bits message) i))
+not_oversize ch n message i = le-ltb 7000 (length (piece_at (message_bits message) i)) (omega (arith, piece_length (message_bits message) i))
 
 -- a part before the last has 7,000 bits
 full : (ch n : ℕ) (message : Message) (i : ℕ) → i + 1 < parts_of message → (length (made_bunch ch n message i).payload == 7000) ≡ true
 full ch n message i h =
     let bits : List Bool = message_bits message in
     let needed = (counted (length bits)).needed (i + 1) (omega arith) h in
-    same_is (length (piece_at bits i)) 7000 (omega (arith, piece_length bits i, needed))
+    eq-eqb (length (piece_at bits i)) 7000 (omega (arith, piece_length bits i, needed))
 
 -- the last part has some
 some_bits : (ch n : ℕ) (message : Message) (i : ℕ) → 0 < i → i < parts_of message → (length (made_bunch ch n message i).payload == 0) ≡ false
 some_bits ch n message i s h =
     let bits : List Bool = message_bits message in
     let needed = (counted (length bits)).needed i s h in
-    some_is (length (piece_at bits i)) (omega (arith, piece_length bits i, needed))
+    not_zero (length (piece_at bits i)) (omega (arith, piece_length bits i, needed))
 
 few : (kept : List Bunch) (i : ℕ) → length kept ≡ i → i < 10 → nat_le 10 (length kept) ≡ false
 few kept i e h = grind (arith, nat_tests)
 
 are_kept : (kept : List Bunch) (i : ℕ) → length kept ≡ i → 0 < i → nat_lt 0 (length kept) ≡ true
-are_kept kept i e h = below_is 0 (length kept) (omega (arith, e, h))
+are_kept kept i e h = lt-ltb 0 (length kept) (omega (arith, e, h))
 
 later_opens : (message : Message) (i : ℕ) → 0 < i → (is_opening message && i == 0) ≡ false
-later_opens message i h = rw (some_is i h) (and_false (is_opening message))
+later_opens message i h = rw (not_zero i h) (and_false (is_opening message))
 
 fault_whole : (ch n : ℕ) (message : Message) → part_fault [] (made_bunch ch n message 0) Whole ≡ None
 fault_whole ch n message = rw (not_oversize ch n message 0) refl
@@ -93,7 +94,7 @@ no_fault ch first n message (suc i) h m = by_count (nat_lt (suc i + 1) (parts_of
 later_lacks : (side : Side) (past : Past) (ch first n : ℕ) (message : Message) (i : ℕ) → lacks_copy side past (kept_parts ch first message (suc i)) (made_bunch ch n message (suc i)) ≡ false
 later_lacks AtServer past ch first n message i = refl
 later_lacks AtClient past ch first n message i =
-    rw (later_opens message (suc i) (omega arith), below_is 0 (suc (length (kept_parts ch first message i))) (omega arith)) (last_of (not (ch == 0)) (is_none (copy_on past ch)))
+    rw (later_opens message (suc i) (omega arith), lt-ltb 0 (suc (length (kept_parts ch first message i))) (omega arith)) (last_of (not (ch == 0)) (is_none (copy_on past ch)))
   where
     last_of : (a b : Bool) → (a && (b && false)) ≡ false
     last_of true true = refl

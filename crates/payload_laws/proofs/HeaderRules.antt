@@ -1,5 +1,6 @@
 -- The bunches of messages have headers that can be spelled, and they are in their place.
 use Rattle.std.proofs.Common.{◌≡◌, ℕ, ◌<◌, ◌%◌, ◌==◌, List, [], ◌∷◌, Bool, true, false, cond, not, ◌&&◌, ◌||◌, nat_lt, length, refl, arith}
+use Rattle.std.proofs.lemmas.Bool.{and_from, lt-ltb}
 use Rattle.protocol_model.specs.declared.Version.{Version}
 use Rattle.protocol_model.specs.Side.{Side, AtServer, AtClient}
 use Rattle.protocol_model.specs.Value.{Call, Arg}
@@ -9,7 +10,6 @@ use Rattle.connection_model.specs.Bunches.{made_bunch, is_opening, is_closing, i
 use Rattle.connection_model.specs.Items.{loose_bunch}
 use Rattle.connection_model.specs.Verdict.{is_misplaced}
 use Rattle.payload_laws.specs.Passing.{is_gone}
-use Rattle.payload_laws.proofs.Tests.{both, below_is}
 use Rattle.payload_laws.proofs.Pieces.{piece_most}
 
 implies_true : (x : Bool) → implies x true ≡ true
@@ -49,18 +49,18 @@ kind_ok true = refl
 kind_ok false = refl
 
 seq_ok : (n : ℕ) → nat_lt (n % 1024) 1024 ≡ true
-seq_ok n = below_is (n % 1024) 1024 (omega arith)
+seq_ok n = lt-ltb (n % 1024) 1024 (omega arith)
 
 -- each part of a message on an index of the version has a header
 pub made_is_bunch : (version : Version) (ch n : ℕ) (message : Message) (i : ℕ) → ch < channel_limit version → is_bunch version (made_bunch ch n message i) ≡ true
 made_is_bunch version ch n message i h =
     let z : Bool = i == 0 in
-    both _ _ (both _ _ (both _ _ (both _ _ (both _ _ (both _ _ (both _ _ (one_control message z) (sleeps_closed message)) (implies_true ((is_opening message && z) || is_closing message))) (below_is ch (channel_limit version) h)) (exports_opened message z)) (implies_true (is_partial (part_at (parts_of message) i)))) (both _ _ (seq_ok n) (kind_ok (ch == 0))))
-    (below_is (length (piece_at (message_bits message) i)) 8192 (omega (arith, piece_most (message_bits message) i)))
+    and_from _ _ (and_from _ _ (and_from _ _ (and_from _ _ (and_from _ _ (and_from _ _ (and_from _ _ (one_control message z) (sleeps_closed message)) (implies_true ((is_opening message && z) || is_closing message))) (lt-ltb ch (channel_limit version) h)) (exports_opened message z)) (implies_true (is_partial (part_at (parts_of message) i)))) (and_from _ _ (seq_ok n) (kind_ok (ch == 0))))
+    (lt-ltb (length (piece_at (message_bits message) i)) 8192 (omega (arith, piece_most (message_bits message) i)))
 
 -- an unreliable message of fewer than 8,192 bits has one
 pub loose_is_bunch : (version : Version) (ch : ℕ) (message : Message) → ch < channel_limit version → length (message_bits message) < 8192 → is_bunch version (loose_bunch ch message) ≡ true
-loose_is_bunch version ch message h l = rw (below_is ch (channel_limit version) h, below_is (length (message_bits message)) 8192 l) refl
+loose_is_bunch version ch message h l = rw (lt-ltb ch (channel_limit version) h, lt-ltb (length (message_bits message)) 8192 l) refl
 
 -- at the client each message is in its place: a Gone on channel 0, all others elsewhere
 pub client_placed : (ch n : ℕ) (message : Message) (i : ℕ) → (ch == 0) ≡ is_gone message → is_misplaced AtClient (made_bunch ch n message i) ≡ false

@@ -3,13 +3,13 @@ use Rattle.std.proofs.Common.{◌≡◌, ◌⊎◌, inl, inr, ℕ, ◌<◌, ◌�
 use Rattle.std.specs.List.{fold}
 use Rattle.std.proofs.lemmas.Bool.Decides.{nat_tests}
 use Rattle.std.proofs.lemmas.Slice.Eq.{bytes_eq-Decides}
+use Rattle.std.proofs.lemmas.Bool.{and_parts, eqb-true, eq-eqb}
 use Rattle.protocol_model.specs.Value.{Segment}
 use Rattle.table_model.specs.Facts.{is_chain}
 use Rattle.connection_model.specs.Names.{name_known, is_same_segment, learn_fault, names_with}
 use Rattle.payload_laws.specs.Limits.{IsSegment, AreSegments}
 use Rattle.payload_laws.specs.Passing.{AreLearnt}
 use Rattle.payload_laws.specs.Learning.{StandAmong, AreAmong, Knows, KnowsAll, KnowsOthers}
-use Rattle.payload_laws.proofs.Tests.{left_of, right_of, same_of, same_is}
 
 -- ---- one segment
 
@@ -40,10 +40,10 @@ pub record Known (names : List Segment) (s t : Segment) : Type 0 where
 pub known_is : (segments names : List Segment) (s t : Segment) (n : ℕ) → AreOne segments → AreAmong segments names → slice_get segments n ≡ Some s → name_known names s.guid ≡ Some t → Known names s t
 known_is segments names s t n one among at h =
     let k = among s.guid t h in
-    let guid : t.guid ≡ s.guid = same_of t.guid s.guid (found_guid names s.guid t h) in
-    let same : (s.outer == t.outer && bytes_eq s.name t.name) ≡ true = sym (one n k.0 s t at k.1) ∙ same_is s.guid t.guid (sym guid) in
-    let outer : s.outer ≡ t.outer = same_of s.outer t.outer (left_of _ _ same) in
-    let name : s.name ≡ t.name = (bytes_eq-Decides s.name t.name).0 (right_of _ _ same) in
+    let guid : t.guid ≡ s.guid = eqb-true t.guid s.guid (found_guid names s.guid t h) in
+    let same : (s.outer == t.outer && bytes_eq s.name t.name) ≡ true = sym (one n k.0 s t at k.1) ∙ eq-eqb s.guid t.guid (sym guid) in
+    let outer : s.outer ≡ t.outer = eqb-true s.outer t.outer (and_parts _ _ same).0 in
+    let name : s.name ≡ t.name = (bytes_eq-Decides s.name t.name).0 (and_parts _ _ same).1 in
     record { agree = same; is = segment_is t.guid s.guid t.outer s.outer t.name s.name guid (sym outer) (sym name) }
 
 -- what one more segment adds
@@ -66,7 +66,7 @@ added_by segments names s n (Some t) e one among at =
 added_by segments names s n None e one among at =
     let more : names_with names s ≡ s ∷ names = rw e refl in
     record {
-      knows = rw more (rw (same_is s.guid s.guid refl) refl);
+      knows = rw more (rw (eq-eqb s.guid s.guid refl) refl);
       among = rw more (λ g t h. by_guid g t (s.guid == g) h);
       keeps = λ t h. rw more (kept t h (s.guid == t.guid) refl);
       count = rw more (omega arith);
@@ -79,7 +79,7 @@ added_by segments names s n None e one among at =
     kept : (t : Segment) → Knows names t → (b : Bool) → (s.guid == t.guid) ≡ b → cond b (Some s) (name_known names t.guid) ≡ Some t
     kept t h false d = h
     kept t h true d =
-        let same : s.guid ≡ t.guid = same_of s.guid t.guid d in
+        let same : s.guid ≡ t.guid = eqb-true s.guid t.guid d in
         let none : ◌≡◌ {A = Option Segment} None (Some t) = sym e ∙ ap (name_known names) same ∙ h in
         absurd (cc)
 
@@ -153,9 +153,9 @@ pub learn_path : (segments names : List Segment) (test : Segment → Bool) (oute
     → Learnt segments names test path
 learn_path segments names test outer [] one among stand are chain known few others = record { learnt = tt; among = among; keeps = λ t h. h; all = tt }
 learn_path segments names test outer (s ∷ path) one among stand are chain known few others =
-    let under : s.outer ≡ outer = same_of s.outer outer (left_of _ _ (left_of _ _ chain)) in
+    let under : s.outer ≡ outer = eqb-true s.outer outer (and_parts _ _ (and_parts _ _ chain).0).0 in
     let a = added segments names s stand.0.0 one among stand.0.1 in
     let count = a.count in
     learn_step segments names test s path (test s) refl stand.0.0 one among stand.0.1 are.0 (subst (λ (o : ℕ). OuterKnown names o) (sym under) known) (omega (arith, few)) others
-    (λ e. learn_path segments (names_with names s) test s.guid path one a.among stand.1 are.1 (right_of _ _ chain) (inr (s, a.knows)) (omega (arith, few, count)) (others_kept segments names s test path a others.1))
-    (λ e. learn_path segments names test s.guid path one among stand.1 are.1 (right_of _ _ chain) (inr (s, others.0 e)) (omega (arith, few)) others.1)
+    (λ e. learn_path segments (names_with names s) test s.guid path one a.among stand.1 are.1 (and_parts _ _ chain).1 (inr (s, a.knows)) (omega (arith, few, count)) (others_kept segments names s test path a others.1))
+    (λ e. learn_path segments names test s.guid path one among stand.1 are.1 (and_parts _ _ chain).1 (inr (s, others.0 e)) (omega (arith, few)) others.1)

@@ -1,6 +1,7 @@
 -- Only lists of values, arguments and segments that were spelled are read.
 use Rattle.std.proofs.Common.{◌≡◌, ℕ, ℤ, zero, suc, ◌<◌, ◌≤◌, ◌+◌, ◌-◌, ◌%◌, ◌^◌, ◌==◌, List, [], ◌∷◌, ◌++◌, Bool, true, false, ◌&&◌, ◌||◌, cond, nat_lt, nat_le, length, Option, Some, None, Ok, refl, sym, ap, ◌∙◌, subst, arith, append_assoc}
 use Rattle.std.specs.List.{flat_map, list_all}
+use Rattle.std.proofs.lemmas.Bool.{and_parts, and_from, lt-ltb, ltb-true, le-leb, leb-true, eqb-true}
 use Rattle.protocol_model.specs.declared.Kind.{Kind}
 use Rattle.protocol_model.specs.declared.Kind.TheVariants.{U8, I32, U32, I64, Packed, Guid, Enum, Bytes}
 use Rattle.protocol_model.specs.declared.Cause.{Cause}
@@ -13,7 +14,6 @@ use Rattle.connection_model.specs.PayloadReading.{PayloadReading, field, number_
 use Rattle.table_model.specs.Facts.{is_type}
 use Rattle.payload_laws.specs.Limits.{HasLimits, AreValues, IsSegment}
 use Rattle.payload_laws.specs.Passing.{AreLearnt}
-use Rattle.payload_laws.proofs.Tests.{left_of, right_of, both, below_is, below_of, most_is, most_of, same_of}
 use Rattle.payload_laws.proofs.Fields.{Answer}
 use Rattle.payload_laws.proofs.Values.{kind_is}
 use Rattle.payload_laws.proofs.Pairs.{on_handle, list_is}
@@ -53,16 +53,16 @@ pairs_on class more last h bits rest got limits above within e later read =
 pairs_where : (class : Class) (more last h : ℕ) (bits rest : List Bool) (got : List Pair × List Bool) (b : Bool) → (h == 0) ≡ b → HasLimits class → (b || (nat_lt last h && nat_le h (handle_count class))) ≡ true → bits ≡ packed_bits h ++ rest
     → ((bits : List Bool) (got : List Pair × List Bool) → pairs_at class more h bits ≡ Ok got → PairsSpelled class h bits got)
     → cond b (give []) (on_handle class more h) rest ≡ Ok got → PairsSpelled class last bits got
-pairs_where class more last h bits rest got true z limits r e later read = no_pairs class last h bits rest got (same_of h 0 z) e read
+pairs_where class more last h bits rest got true z limits r e later read = no_pairs class last h bits rest got (eqb-true h 0 z) e read
 pairs_where class more last h bits rest got false z limits r e later read =
-    pairs_on class more last h bits rest got limits (below_of last h (left_of _ _ r)) (most_of h (handle_count class) (right_of _ _ r)) e later read
+    pairs_on class more last h bits rest got limits (ltb-true last h (and_parts _ _ r).0) (leb-true h (handle_count class) (and_parts _ _ r).1) e later read
 
 pub pairs_spelled : (class : Class) (more last : ℕ) (bits : List Bool) (got : List Pair × List Bool) → HasLimits class → pairs_at class more last bits ≡ Ok got → PairsSpelled class last bits got
 pairs_spelled class zero last bits got limits read =
     let a = then_of (field number_at (λ h. h == 0)) (λ _. give []) bits got read in
     let kept = must_of number_at (λ h. h == 0) None bits a.value a.rest a.first in
     let s = packed_spelled None a.value bits a.rest kept.1 in
-    no_pairs class last a.value bits a.rest got (same_of a.value 0 kept.0) s.1 a.second
+    no_pairs class last a.value bits a.rest got (eqb-true a.value 0 kept.0) s.1 a.second
 pairs_spelled class (suc more) last bits got limits read =
     let rule : ℕ → Bool = λ (h : ℕ). (h == 0 || (nat_lt last h && nat_le h (handle_count class))) in
     let a = then_of (field number_at rule) (λ h. cond (h == 0) (give []) (on_handle class more h)) bits got read in
@@ -77,7 +77,7 @@ some_pairs_spelled class bits got limits read =
     let a = then_of (field number_at rule) (λ h. on_handle class more h) bits got read in
     let kept = must_of number_at rule None bits a.value a.rest a.first in
     let s = packed_spelled None a.value bits a.rest kept.1 in (
-      pairs_on class more 0 a.value bits a.rest got limits (below_of 0 a.value (left_of _ _ kept.0)) (most_of a.value (handle_count class) (right_of _ _ kept.0)) s.1 (λ bits got read. pairs_spelled class more a.value bits got limits read) a.second,
+      pairs_on class more 0 a.value bits a.rest got limits (ltb-true 0 a.value (and_parts _ _ kept.0).0) (leb-true a.value (handle_count class) (and_parts _ _ kept.0).1) s.1 (λ bits got read. pairs_spelled class more a.value bits got limits read) a.second,
       some_read a.value more a.rest got a.second,
     )
   where
@@ -107,7 +107,7 @@ octets_spelled (suc n) bits got read =
     let more = octets_spelled n a.rest (b.value, b.rest) b.first in
     let here : OctetsSpelled (suc n) bits (a.value ∷ b.value, b.rest) = record {
       count = ap suc more.count;
-      small = both (nat_lt a.value 256) (list_all (λ b. nat_lt b 256) b.value) (below_is a.value 256 s.0) more.small;
+      small = and_from (nat_lt a.value 256) (list_all (λ b. nat_lt b 256) b.value) (lt-ltb a.value 256 s.0) more.small;
       bits_are = s.1 ∙ ap (λ (xs : List Bool). fixed_bits 8 a.value ++ xs) more.bits_are ∙ sym (append_assoc (fixed_bits 8 a.value) (octets_bits b.value) b.rest);
     } in
     subst (λ (got : List ℕ × List Bool). OctetsSpelled (suc n) bits got) (ok_same (a.value ∷ b.value, b.rest) got b.second) here
@@ -125,7 +125,7 @@ octets_arg_spelled most bits got m read =
     let below = s.0 in
     let count = o.count in
     let here : ArgSpelled (Bytes most) bits (Octets b.value, b.rest) = record {
-      fit = both (nat_le (length b.value) most) (list_all (λ b. nat_lt b 256) b.value) (most_is (length b.value) most (omega (arith, below, count))) o.small;
+      fit = and_from (nat_le (length b.value) most) (list_all (λ b. nat_lt b 256) b.value) (le-leb (length b.value) most (omega (arith, below, count))) o.small;
       bits_are = s.1 ∙ ap (λ (n : ℕ). int_bits (most + 1) n ++ a.rest) (sym count) ∙ ap (λ (xs : List Bool). int_bits (most + 1) (length b.value) ++ xs) o.bits_are ∙ sym (append_assoc (int_bits (most + 1) (length b.value)) (octets_bits b.value) b.rest);
     } in
     subst (λ (got : Arg × List Bool). ArgSpelled (Bytes most) bits got) (ok_same (Octets b.value, b.rest) got b.second) here
@@ -150,7 +150,7 @@ as_arg kind bits got f g s =
     subst (λ (got : Arg × List Bool). ArgSpelled kind bits got) s.is here
 
 pub arg_spelled : (kind : Kind) (bits : List Bool) (got : Arg × List Bool) → is_type true kind ≡ true → arg_at kind bits ≡ Ok got → ArgSpelled kind bits got
-arg_spelled (Bytes most) bits got k read = octets_arg_spelled most bits got (most_of most 2048 (right_of (nat_le 1 most) (nat_le most 2048) k)) read
+arg_spelled (Bytes most) bits got k read = octets_arg_spelled most bits got (leb-true most 2048 (and_parts (nat_le 1 most) (nat_le most 2048) k).1) read
 arg_spelled Kind.Bool bits got k read = as_arg Kind.Bool bits got (λ v. refl) (λ v. refl) (scalar_spelled Kind.Bool bits got k read)
 arg_spelled U8 bits got k read = as_arg U8 bits got (λ v. refl) (λ v. refl) (scalar_spelled U8 bits got k read)
 arg_spelled I32 bits got k read = as_arg I32 bits got (λ v. refl) (λ v. refl) (scalar_spelled I32 bits got k read)
@@ -170,11 +170,11 @@ args_spelled [] bits got k read =
     subst (λ (got : List Arg × List Bool). ArgsSpelled [] bits got) (ok_same ([], bits) got read) here
 args_spelled (kind ∷ kinds) bits got k read =
     let a = then_of (arg_at kind) (λ a. (args_at kinds >>= (λ args. give (a ∷ args)))) bits got read in
-    let s = arg_spelled kind bits (a.value, a.rest) (left_of _ _ k) a.first in
+    let s = arg_spelled kind bits (a.value, a.rest) (and_parts _ _ k).0 a.first in
     let b = then_of (args_at kinds) (λ args. give (a.value ∷ args)) a.rest got a.second in
-    let more = args_spelled kinds a.rest (b.value, b.rest) (right_of _ _ k) b.first in
+    let more = args_spelled kinds a.rest (b.value, b.rest) (and_parts _ _ k).1 b.first in
     let here : ArgsSpelled (kind ∷ kinds) bits (a.value ∷ b.value, b.rest) = record {
-      fit = both (arg_fits kind a.value) (args_fit kinds b.value) s.fit more.fit;
+      fit = and_from (arg_fits kind a.value) (args_fit kinds b.value) s.fit more.fit;
       bits_are = s.bits_are ∙ ap (λ (xs : List Bool). arg_bits kind a.value ++ xs) more.bits_are ∙ sym (append_assoc (arg_bits kind a.value) (args_bits kinds b.value) b.rest);
     } in
     subst (λ (got : List Arg × List Bool). ArgsSpelled (kind ∷ kinds) bits got) (ok_same (a.value ∷ b.value, b.rest) got b.second) here
@@ -189,7 +189,7 @@ four : (a b c d r : List Bool) → a ++ (b ++ (c ++ (d ++ r))) ≡ (a ++ b ++ c 
 four a b c d r = simp append_assoc
 
 odd_of : (g : ℕ) → (g % 2 == 1 && nat_le 3 g) ≡ true → (g % 2 ≡ 1) × (3 ≤ g)
-odd_of g h = (same_of (g % 2) 1 (left_of _ _ h), most_of 3 g (right_of _ _ h))
+odd_of g h = (eqb-true (g % 2) 1 (and_parts _ _ h).0, leb-true 3 g (and_parts _ _ h).1)
 
 pub segment_spelled : (bits : List Bool) (got : Segment × List Bool) → segment_at bits ≡ Ok got → SegmentSpelled bits got
 segment_spelled bits got read =
@@ -208,7 +208,7 @@ segment_spelled bits got read =
     let m = must_of (octets_at c.value) is_segment_name None c.rest d.value d.rest d.first in
     let name = octets_spelled c.value c.rest (d.value, d.rest) m.1 in
     let count = name.count in
-    let short : c.value ≤ 31 = most_of c.value 31 (right_of _ _ n.0) in
+    let short : c.value ≤ 31 = leb-true c.value 31 (and_parts _ _ n.0).1 in
     let odd = odd_of a.value g.0 in
     let s : Segment = record { guid = a.value; outer = b.value; name = d.value } in
     let here : SegmentSpelled bits (s, d.rest) = record {
@@ -275,4 +275,4 @@ exports_spelled true names bits got read =
     let a = then_of (field number_at (λ n. nat_le 1 n)) (λ count. segments_at names count) bits got read in
     let n = must_of number_at (λ n. nat_le 1 n) None bits a.value a.rest a.first in
     let count = packed_spelled None a.value bits a.rest n.1 in
-    exports_by names a.value bits a.rest got count.0 (most_of 1 a.value n.0) count.1 (segments_spelled names a.value a.rest got a.second)
+    exports_by names a.value bits a.rest got count.0 (leb-true 1 a.value n.0) count.1 (segments_spelled names a.value a.rest got a.second)

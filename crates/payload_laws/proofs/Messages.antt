@@ -3,6 +3,7 @@ use Rattle.std.proofs.Common.{◌≡◌, ℕ, zero, suc, ◌≤◌, ◌%◌, ◌
 use Rattle.std.specs.List.{fold, list_all}
 use Rattle.std.specs.Bool.{beq}
 use Rattle.std.proofs.lemmas.Option.{slice_get_within}
+use Rattle.std.proofs.lemmas.Bool.{and_parts, and_from, le-leb, eq-eqb}
 use Rattle.protocol_model.specs.declared.Way.{Way}
 use Rattle.protocol_model.specs.declared.Cause.{Cause}
 use Rattle.protocol_model.specs.declared.Cause.TheVariants.{BadChannel, UnknownGuid, Clash, ActorsFull}
@@ -20,7 +21,6 @@ use Rattle.connection_model.specs.PayloadReading.{PayloadReading, field, unless,
 use Rattle.table_model.specs.Facts.{is_type, is_call}
 use Rattle.payload_laws.specs.Limits.{HasLimits, IsActor}
 use Rattle.payload_laws.specs.Passing.{OpenPasses, UpdatePasses, CallPasses}
-use Rattle.payload_laws.proofs.Tests.{left_of, right_of, both, most_is, same_is}
 use Rattle.payload_laws.proofs.Fields.{Answer, then_read, packed_read, must_read, need_read}
 use Rattle.payload_laws.proofs.Pairs.{values_read, some_values_read}
 use Rattle.payload_laws.proofs.Args.{args_read}
@@ -30,7 +30,7 @@ use Rattle.payload_laws.proofs.Segments.{are_some, exports_read}
 actor_read : (actor : ℕ) (rest : List Bool) → IsActor actor → actor_at (packed_bits actor ++ rest) ≡ Ok (actor, rest)
 actor_read actor rest is =
     must_read number_at (λ g. g % 2 == 0 && nat_le 2 g) _ (packed_bits actor ++ rest) actor rest (packed_read _ actor rest is.below)
-    (both (actor % 2 == 0) (nat_le 2 actor) (same_is (actor % 2) 0 is.even) (most_is 2 actor is.least))
+    (and_from (actor % 2 == 0) (nat_le 2 actor) (eq-eqb (actor % 2) 0 is.even) (le-leb 2 actor is.least))
 
 -- nothing is left
 abbrev pub ended : {A : Type 0} → A → PayloadReading A
@@ -94,8 +94,8 @@ is_call_there class way_ok reliable number call e w r = rw (e, w, r) (same_flag 
 
 calls_kinds : (calls : List Call) (n : ℕ) (call : Call) → list_all is_call calls ≡ true → slice_get calls n ≡ Some call → is_call call ≡ true
 calls_kinds [] n call h e = absurd (cc)
-calls_kinds (c ∷ calls) zero call h e = let same : c ≡ call = cc in rw (← same) (left_of _ _ h)
-calls_kinds (c ∷ calls) (suc n) call h e = calls_kinds calls n call (right_of _ _ h) e
+calls_kinds (c ∷ calls) zero call h e = let same : c ≡ call = cc in rw (← same) (and_parts _ _ h).0
+calls_kinds (c ∷ calls) (suc n) call h e = calls_kinds calls n call (and_parts _ _ h).1 e
 
 -- a call of the class is one that a table may have
 pub call_is : (class : Class) (number : ℕ) (call : Call) → HasLimits class → call_at class number ≡ Some call → is_call call ≡ true
@@ -108,7 +108,7 @@ number_is class zero call limits e = omega arith
 number_is class (suc n) call limits e = let within = slice_get_within class.calls n call e in let few = limits.call_count in omega (arith, within, few)
 
 pub call_types : (call : Call) → is_call call ≡ true → list_all (is_type true) call.args ≡ true
-call_types call h = right_of _ _ (left_of _ _ (left_of _ _ h))
+call_types call h = (and_parts _ _ (and_parts _ _ (and_parts _ _ h).0).0).1
 
 call_end_read : (class : Class) (actor : ℕ) (way_ok : Way → Bool) (reliable : Bool) (number : ℕ) (call : Call) (args : List Arg) → HasLimits class → call_at class number ≡ Some call → way_ok call.way ≡ true → call.reliable ≡ reliable → args_fit call.args args ≡ true
     → call_at_end class actor way_ok reliable (packed_bits number ++ (args_bits call.args args ++ [])) ≡ Ok (Calls actor number call args, [])

@@ -2,6 +2,7 @@
 use Rattle.std.proofs.Common.{◌≡◌, ℕ, suc, ◌<◌, ◌%◌, ◌^◌, ◌==◌, List, [], ◌∷◌, ◌++◌, Bool, true, false, not, ◌&&◌, ◌||◌, cond, nat_lt, nat_le, Option, Some, None, unwrap_or, option_and_then, Ok, refl, sym, ap, ◌∙◌, subst, arith, append_assoc, append-nil, length}
 use Rattle.std.specs.List.{fold}
 use Rattle.std.specs.Bool.{beq}
+use Rattle.std.proofs.lemmas.Bool.{and_parts, and_from, leb-true, eqb-true}
 use Rattle.protocol_model.specs.declared.Way.{Way}
 use Rattle.protocol_model.specs.declared.Cause.{Cause}
 use Rattle.protocol_model.specs.declared.Cause.TheVariants.{BadChannel, UnknownGuid, Clash, ActorsFull}
@@ -21,7 +22,6 @@ use Rattle.connection_model.specs.PayloadReading.{PayloadReading, field, unless,
 use Rattle.payload_laws.specs.Limits.{HasLimits, IsActor, AreValues}
 use Rattle.payload_laws.specs.Passing.{is_gone, comes_to}
 use Rattle.payload_laws.specs.Spelling.{KnowsLimits, Spells}
-use Rattle.payload_laws.proofs.Tests.{left_of, right_of, both, most_of, same_of}
 use Rattle.payload_laws.proofs.Messages.{ended, call_is, call_types}
 use Rattle.payload_laws.proofs.ReadBack.{some_exports}
 use Rattle.payload_laws.proofs.Spelled.{then_of, ok_same, ok_parts, must_of, need_of, packed_spelled}
@@ -40,7 +40,7 @@ ended_of value bits got read =
   where
     no_bits : (bits : List Bool) → (length bits == 0) ≡ true → bits ≡ []
     no_bits [] h = refl
-    no_bits (b ∷ bits) h = let none : suc (length bits) ≡ 0 = same_of _ 0 h in absurd (omega (arith, none))
+    no_bits (b ∷ bits) h = let none : suc (length bits) ≡ 0 = eqb-true _ 0 h in absurd (omega (arith, none))
 
 record ActorSpelled (bits : List Bool) (actor : ℕ) (rest : List Bool) : Type 0 where
   pub is : IsActor actor
@@ -50,7 +50,7 @@ actor_spelled : (bits : List Bool) (actor : ℕ) (rest : List Bool) → actor_at
 actor_spelled bits actor rest read =
     let kept = must_of number_at (λ g. g % 2 == 0 && nat_le 2 g) None bits actor rest read in
     let s = packed_spelled None actor bits rest kept.1 in
-    record { is = record { even = same_of (actor % 2) 0 (left_of _ _ kept.0); least = most_of 2 actor (right_of _ _ kept.0); below = s.0 }; bits_are = s.1 }
+    record { is = record { even = eqb-true (actor % 2) 0 (and_parts _ _ kept.0).0; least = leb-true 2 actor (and_parts _ _ kept.0).1; below = s.0 }; bits_are = s.1 }
 
 class_of : (cause : Cause) (o : Option Class) (bits : List Bool) (class : Class) (rest : List Bool) → class_or cause o bits ≡ Ok (class, rest) → (o ≡ Some class) × (bits ≡ rest)
 class_of cause (Some c) bits class rest read = let same = ok_parts c class bits rest read in (ap (λ (c : Class). Some c) same.0, same.1)
@@ -233,7 +233,7 @@ found_where : (class : Class) (way_ok : Way → Bool) (reliable : Bool) (number 
 found_where class way_ok reliable number None e h = let none : false ≡ true = rw (is_call_of, e) at h in absurd (cc)
 found_where class way_ok reliable number (Some call) e h =
     let some : (way_ok call.way && beq call.reliable reliable) ≡ true = rw (is_call_of, e) at h in
-    record { call = call; found = e; way = left_of _ _ some; as_reliable = same_flag_of call.reliable reliable (right_of (way_ok call.way) (beq call.reliable reliable) some) }
+    record { call = call; found = e; way = (and_parts _ _ some).0; as_reliable = same_flag_of call.reliable reliable (and_parts (way_ok call.way) (beq call.reliable reliable) some).1 }
 
 found_of : (class : Class) (way_ok : Way → Bool) (reliable : Bool) (number : ℕ) → is_call_of class way_ok reliable number ≡ true → CallFound class way_ok reliable number
 found_of class way_ok reliable number h = found_where class way_ok reliable number (call_at class number) refl h
@@ -361,7 +361,7 @@ gone_spelled table past first bits got read =
     let asleep = unless_of (is_sleeping_copy past b.value) (UnknownGuid b.value) b.rest c.value c.rest c.first in
     let end = ended_of (Gone b.value) c.rest got c.second in
     got_is is_gone AtClient table past first bits (Gone b.value) got end.1 refl (
-      one.1 ∙ ap (λ (n : ℕ). packed_bits n ++ a.rest) (same_of a.value 1 n.0) ∙ ap (λ (xs : List Bool). packed_bits 1 ++ xs) (actor.bits_are ∙ ap (λ (xs : List Bool). packed_bits b.value ++ xs) (asleep.1 ∙ end.0) ∙ append-nil (packed_bits b.value)),
+      one.1 ∙ ap (λ (n : ℕ). packed_bits n ++ a.rest) (eqb-true a.value 1 n.0) ∙ ap (λ (xs : List Bool). packed_bits 1 ++ xs) (actor.bits_are ∙ ap (λ (xs : List Bool). packed_bits b.value ++ xs) (asleep.1 ∙ end.0) ∙ append-nil (packed_bits b.value)),
       actor.is,
       asleep.0,
     )
@@ -379,10 +379,10 @@ server_spelled table past first bits got limits read =
     let after : PayloadReading Message = (actor_at >>= (λ actor. (class_or (UnknownGuid actor) (opened_class past actor) >>= (λ class. call_at_end class actor goes_up first.reliable)))) in
     let a = then_of (field bit_at rule) (λ is_call. after) bits got read in
     let kept = must_of bit_at rule None bits a.value a.rest a.first in
-    let is_call : a.value ≡ true = left_of a.value (not (first.channel == 0)) kept.0 in
+    let is_call : a.value ≡ true = (and_parts a.value (not (first.channel == 0)) kept.0).0 in
     let first_bit : bits ≡ true ∷ a.rest = bit_of bits a.value a.rest kept.1 ∙ ap (λ (b : Bool). b ∷ a.rest) is_call in
     let read_call = subst (λ (xs : List Bool). Got is_plain AtServer table past first xs got) (sym first_bit) (call_spelled AtServer table past first goes_up a.rest got limits (λ way. refl) a.second) in
-    (read_call.0, read_call.1, both (not (first.channel == 0)) (is_plain got.0) (right_of a.value (not (first.channel == 0)) kept.0) read_call.2)
+    (read_call.0, read_call.1, and_from (not (first.channel == 0)) (is_plain got.0) (and_parts a.value (not (first.channel == 0)) kept.0).1 read_call.2)
   where
     bit_of : (bits : List Bool) (b : Bool) (rest : List Bool) → bit_at {Why = Option Cause} bits ≡ Ok (b, rest) → bits ≡ b ∷ rest
     bit_of [] b rest h = absurd (cc)

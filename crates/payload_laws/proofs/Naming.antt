@@ -2,6 +2,7 @@
 use Rattle.std.proofs.Common.{◌≡◌, ℕ, suc, ◌≤◌, ◌+◌, ◌-◌, ◌==◌, List, [], ◌∷◌, ◌++◌, Bool, true, false, not, ◌&&◌, cond, Option, Some, option_and_then, slice_get, find, filter, map, bytes_eq, inl, refl, sym, ap, ◌∙◌, subst, arith, length, append_assoc, append-nil}
 use Rattle.std.specs.List.{list_all}
 use Rattle.std.proofs.lemmas.Slice.Eq.{bytes_eq-Decides}
+use Rattle.std.proofs.lemmas.Bool.{and_parts, and_from, eqb-true}
 use Rattle.protocol_model.specs.Value.{Segment, Class, guid_of, class_guid}
 use Rattle.table_model.specs.Facts.{IsTable, is_chain, paths_differ}
 use Rattle.table_model.specs.Rules.{Entry, segments_of, path_names}
@@ -11,7 +12,7 @@ use Rattle.connection_model.specs.Names.{path_up, same_names, class_named}
 use Rattle.payload_laws.specs.Limits.{AreSegments}
 use Rattle.payload_laws.specs.Accepted.{StandsIn}
 use Rattle.payload_laws.specs.Learning.{StandAmong, AreAmong, Knows, KnowsAll, KnowsOthers, MayLearn}
-use Rattle.payload_laws.proofs.Tests.{left_of, right_of, both, same_of, some_is}
+use Rattle.protocol_laws.proofs.Bounds.{not_zero}
 use Rattle.payload_laws.proofs.TableFacts.{path_segments}
 use Rattle.payload_laws.proofs.Learning.{Learnt, learn_path}
 
@@ -22,7 +23,7 @@ abbrev Up : List Segment → (most guid : ℕ) → List (List ℕ) → Type 0
 Up names most g path = cond (g == 0) (Some []) (path_up names most g) ≡ Some path
 
 up_step : (names : List Segment) (most : ℕ) (s : Segment) (path : List (List ℕ)) → Knows names s → 3 ≤ s.guid → Up names most s.outer path → Up names (suc most) s.guid (path ++ s.name ∷ [])
-up_step names most s path k l up = rw (some_is s.guid (omega (arith, l)), k, up) refl
+up_step names most s path k l up = rw (not_zero s.guid (omega (arith, l)), k, up) refl
 
 abbrev last_guid : ℕ → List Segment → ℕ
 last_guid outer [] = outer
@@ -31,10 +32,10 @@ last_guid outer (s ∷ path) = last_guid s.guid path
 up_path : (names : List Segment) (most outer : ℕ) (front : List (List ℕ)) (path : List Segment) → Up names most outer front → is_chain outer path ≡ true → AreSegments path → KnowsAll names path → Up names (most + length path) (last_guid outer path) (front ++ path_names path)
 up_path names most outer front [] up chain are known = let e : most + 0 ≡ most = omega arith in rw (append-nil front, e) up
 up_path names most outer front (s ∷ path) up chain are known =
-    let under : s.outer ≡ outer = same_of s.outer outer (left_of _ _ (left_of _ _ chain)) in
+    let under : s.outer ≡ outer = eqb-true s.outer outer (and_parts _ _ (and_parts _ _ chain).0).0 in
     let here : Up names (suc most) s.guid (front ++ s.name ∷ []) = up_step names most s front known.0 are.0.least (subst (λ (o : ℕ). Up names most o front) (sym under) up) in
     let more : most + suc (length path) ≡ suc most + length path = omega arith in
-    rw (more, ← append_assoc front (s.name ∷ []) (path_names path)) (up_path names (suc most) s.guid (front ++ s.name ∷ []) path here (right_of _ _ chain) are.1 known.1)
+    rw (more, ← append_assoc front (s.name ∷ []) (path_names path)) (up_path names (suc most) s.guid (front ++ s.name ∷ []) path here (and_parts _ _ chain).1 are.1 known.1)
 
 last_is : (s : Segment) (path : List Segment) → last_guid s.guid path ≡ guid_of (s ∷ path)
 last_is s [] = refl
@@ -52,7 +53,7 @@ path_named names (s ∷ path) chain are known some few =
     let up = up_path names (8 - length all) 0 [] all refl chain are known in
     let eight : 8 - length all + length all ≡ 8 = omega (arith, few) in
     let least : 3 ≤ last_guid s.guid path = last_least s.guid path are.0.least are.1 in
-    let not_none : (last_guid s.guid path == 0) ≡ false = some_is (last_guid s.guid path) (omega (arith, least)) in
+    let not_none : (last_guid s.guid path == 0) ≡ false = not_zero (last_guid s.guid path) (omega (arith, least)) in
     ap (path_up names 8) (sym (last_is s path)) ∙ named (8 - length all + length all) (last_guid s.guid path) eight not_none up
   where
     named : (most g : ℕ) → most ≡ 8 → (g == 0) ≡ false → Up names most g (path_names (s ∷ path)) → path_up names 8 g ≡ Some (path_names (s ∷ path))
@@ -68,7 +69,7 @@ same_either (s ∷ path) (n ∷ names) = ap (λ (b : Bool). bytes_eq s.name n &&
 
 same_itself : (path : List Segment) → same_names path (path_names path) ≡ true
 same_itself [] = refl
-same_itself (s ∷ path) = both (bytes_eq s.name s.name) (same_names path (path_names path)) ((bytes_eq-Decides s.name s.name).1 refl) (same_itself path)
+same_itself (s ∷ path) = and_from (bytes_eq s.name s.name) (same_names path (path_names path)) ((bytes_eq-Decides s.name s.name).1 refl) (same_itself path)
 
 not_true : (b : Bool) → not b ≡ true → b ≡ false
 not_true true h = cc
@@ -76,14 +77,14 @@ not_true false h = refl
 
 -- of paths that differ from the first, so does each
 differs_there : (path : List (List ℕ)) (before : List Entry) (e : Entry) (after : List Entry) → list_all (λ other. not (Rules.same_names path other)) (map (λ (e : Entry). path_names e.class.path) (before ++ e ∷ after)) ≡ true → Rules.same_names path (path_names e.class.path) ≡ false
-differs_there path [] e after h = not_true _ (left_of _ _ h)
-differs_there path (x ∷ before) e after h = differs_there path before e after (right_of _ _ h)
+differs_there path [] e after h = not_true _ (and_parts _ _ h).0
+differs_there path (x ∷ before) e after h = differs_there path before e after (and_parts _ _ h).1
 
 first_found : (before : List Entry) (e : Entry) (after : List Entry) → paths_differ (map (λ (e : Entry). path_names e.class.path) (before ++ e ∷ after)) ≡ true → find (λ (class : Class). same_names class.path (path_names e.class.path)) (table_of (before ++ e ∷ after)) ≡ Some e.class
 first_found [] e after h = rw (same_itself e.class.path) refl
 first_found (x ∷ before) e after h =
-    let other : same_names x.class.path (path_names e.class.path) ≡ false = same_either x.class.path (path_names e.class.path) ∙ differs_there (path_names x.class.path) before e after (left_of _ _ h) in
-    rw other (first_found before e after (right_of _ _ h))
+    let other : same_names x.class.path (path_names e.class.path) ≡ false = same_either x.class.path (path_names e.class.path) ∙ differs_there (path_names x.class.path) before e after (and_parts _ _ h).0 in
+    rw other (first_found before e after (and_parts _ _ h).1)
 
 -- ---- an open of a class of the table
 

@@ -1,6 +1,7 @@
 -- Updates and calls that are made go through at the other end.
 use Rattle.std.proofs.Common.{◌≡◌, ℕ, ◌<◌, List, Bool, true, false, ◌&&◌, Option, Some, None, option_and_then, refl, length}
 use Rattle.std.specs.Bool.{then_some}
+use Rattle.std.proofs.lemmas.Bool.{and_parts}
 use Rattle.protocol_model.specs.declared.Way.{Way}
 use Rattle.protocol_model.specs.Side.{Side, AtServer, AtClient}
 use Rattle.protocol_model.specs.Value.{Class, Call, Arg, args_fit, call_at}
@@ -12,7 +13,6 @@ use Rattle.connection_model.specs.Items.{update_pairs}
 use Rattle.connection_model.specs.Copies.{copy_class, copy_on}
 use Rattle.payload_laws.specs.Limits.{HasLimits, IsActor, AreValues}
 use Rattle.payload_laws.specs.Passing.{UpdatePasses, CallPasses, comes_to, reading_side}
-use Rattle.payload_laws.proofs.Tests.{left_of, right_of}
 use Rattle.payload_laws.proofs.Updates.{update_some, update_fits}
 use Rattle.payload_laws.proofs.SightSpelling.{due_fit}
 
@@ -31,7 +31,7 @@ record Fitting (side : Side) (number : ℕ) (args : List Arg) (class : Class) (c
 fitting_by : (side : Side) (number : ℕ) (args : List Arg) (class : Class) (call it : Call) (b : Bool) → call_at class number ≡ Some it → (goes_from side it.way && args_fit it.args args) ≡ b → then_some b it ≡ Some call → Fitting side number args class call
 fitting_by side number args class call it true e t h =
     let same : it ≡ call = cc in
-    rw (← same) (record { found = e; way = left_of _ _ t; fit = right_of (goes_from side it.way) (args_fit it.args args) t })
+    rw (← same) (record { found = e; way = (and_parts _ _ t).0; fit = (and_parts (goes_from side it.way) (args_fit it.args args) t).1 })
 fitting_by side number args class call it false e t h = absurd (cc)
 
 fitting_of : (side : Side) (number : ℕ) (args : List Arg) (class : Class) (call : Call) (o : Option Call) → call_at class number ≡ o → option_and_then (λ (call : Call). then_some (goes_from side call.way && args_fit call.args args) call) o ≡ Some call → Fitting side number args class call

@@ -1,13 +1,14 @@
 -- A value list is read as it was spelled.
 use Rattle.std.proofs.Common.{◌≡◌, ℕ, ℤ, zero, suc, ◌<◌, ◌≤◌, ◌+◌, ◌-◌, ◌==◌, List, [], ◌∷◌, ◌++◌, Bool, true, false, ◌&&◌, ◌||◌, cond, nat_lt, nat_le, Ok, refl, ap, ◌∙◌, arith, append_assoc, length}
 use Rattle.std.specs.List.{flat_map}
+use Rattle.std.proofs.lemmas.Bool.{and_from, lt-ltb, le-leb}
 use Rattle.protocol_model.specs.Bits.{packed_bits}
 use Rattle.protocol_model.specs.Reading.{◌>>=◌, give}
 use Rattle.protocol_model.specs.Value.{Class, Pair, fits, handle_count}
 use Rattle.protocol_model.specs.Payload.{value_bits, pair_bits, list_bits, kind_at}
 use Rattle.connection_model.specs.PayloadReading.{PayloadReading, field, number_at, value_at, pairs_at, values_at, some_values_at}
 use Rattle.payload_laws.specs.Limits.{HasLimits, AreValues}
-use Rattle.payload_laws.proofs.Tests.{both, below_is, most_is, some_is}
+use Rattle.protocol_laws.proofs.Bounds.{not_zero}
 use Rattle.payload_laws.proofs.Fields.{then_read, packed_read, must_read}
 use Rattle.payload_laws.proofs.Values.{value_read, kind_is}
 
@@ -25,7 +26,7 @@ pub list_is : (class : Class) (p : Pair) (pairs : List Pair) (rest : List Bool) 
 list_is class p pairs rest = regroup (packed_bits p.handle) (value_bits (kind_at class p.handle) p.value) (flat_map (λ p. pair_bits class p) pairs) (packed_bits 0) rest
 
 handle_ok : (h last count : ℕ) → last < h → h ≤ count → (h == 0 || (nat_lt last h && nat_le h count)) ≡ true
-handle_ok h last count a b = rw (some_is h (omega (arith, a)), both (nat_lt last h) (nat_le h count) (below_is last h a) (most_is h count b)) refl
+handle_ok h last count a b = rw (not_zero h (omega (arith, a)), and_from (nat_lt last h) (nat_le h count) (lt-ltb last h a) (le-leb h count b)) refl
 
 -- the pairs from a handle on, where the value and the pairs behind it are read
 handle_on : (class : Class) (more : ℕ) (p : Pair) (pairs : List Pair) (rest : List Bool) → HasLimits class → fits (kind_at class p.handle) p.value ≡ true
@@ -62,7 +63,7 @@ pairs_read class (suc more) last (p ∷ pairs) rest limits m v =
     ap (pairs_at class (suc more) last) (list_is class p pairs rest)
     ∙ then_read (field number_at rule) (λ h. cond (h == 0) (give []) (on_handle class more h)) (packed_bits p.handle ++ back) p.handle back (Ok (p ∷ pairs, rest))
     (must_read number_at rule _ (packed_bits p.handle ++ back) p.handle back (packed_read _ p.handle back (omega (arith, within, few))) (handle_ok p.handle last (handle_count class) above within))
-    (rw (some_is p.handle (omega (arith, above))) (handle_on class more p pairs rest limits v.2 behind))
+    (rw (not_zero p.handle (omega (arith, above))) (handle_on class more p pairs rest limits v.2 behind))
 
 -- a value list
 pub values_read : (class : Class) (pairs : List Pair) (rest : List Bool) → HasLimits class → AreValues class 0 pairs → values_at class (list_bits class pairs ++ rest) ≡ Ok (pairs, rest)
@@ -80,5 +81,5 @@ some_values_read class (p ∷ pairs) rest limits s v =
     let behind = pairs_read class (handle_count class - 1) p.handle pairs rest limits (omega (arith, above)) v.3 in
     ap (some_values_at class) (list_is class p pairs rest)
     ∙ then_read (field number_at rule) (λ h. on_handle class (handle_count class - 1) h) (packed_bits p.handle ++ back) p.handle back (Ok (p ∷ pairs, rest))
-    (must_read number_at rule _ (packed_bits p.handle ++ back) p.handle back (packed_read _ p.handle back (omega (arith, within, few))) (both (nat_lt 0 p.handle) (nat_le p.handle (handle_count class)) (below_is 0 p.handle above) (most_is p.handle (handle_count class) within)))
+    (must_read number_at rule _ (packed_bits p.handle ++ back) p.handle back (packed_read _ p.handle back (omega (arith, within, few))) (and_from (nat_lt 0 p.handle) (nat_le p.handle (handle_count class)) (lt-ltb 0 p.handle above) (le-leb p.handle (handle_count class) within)))
     (handle_on class (handle_count class - 1) p pairs rest limits v.2 behind)

@@ -4,6 +4,7 @@ use Rattle.std.specs.List.{flat_map, range_with_len}
 use Rattle.std.proofs.lemmas.List.{drop-drop, take_all, length-take, length-drop, reverse-append}
 use Rattle.std.proofs.lemmas.Bool.Decides.{nat_tests}
 use Rattle.std.proofs.lemmas.List.Concat.{flat_map-append}
+use Rattle.std.proofs.lemmas.Bool.{leb-true, eq-eqb}
 use Rattle.protocol_model.specs.Packet.{Bunch}
 use Rattle.protocol_model.specs.declared.Part.{Part}
 use Rattle.protocol_model.specs.declared.Part.TheVariants.{Whole, First, Middle, Last, Lone}
@@ -11,7 +12,6 @@ use Rattle.protocol_model.specs.Payload.{Message, part_count, part_at, piece_at,
 use Rattle.connection_model.specs.Bunches.{made_bunch}
 use Rattle.connection_model.specs.Windows.{ends_payload, joined_bits, first_of, wholes_from}
 use Rattle.payload_laws.specs.Parts.{bunches_from, bunches_of, kept_parts}
-use Rattle.payload_laws.proofs.Tests.{most_of, same_is}
 
 -- ---- how many there are
 
@@ -29,7 +29,7 @@ pub record Counted (n : ℕ) : Type 0 where
 
 counted_by : (n : ℕ) (b : Bool) → nat_le n 7000 ≡ b → Counted n
 counted_by n true e =
-    let short : n ≤ 7000 = most_of n 7000 e in
+    let short : n ≤ 7000 = leb-true n 7000 e in
     let one : part_count n ≡ 1 = rw e refl in
     record { some = omega (arith, one); enough = omega (arith, one, short); needed = λ i a b. absurd (omega (arith, one, a, b)) }
 counted_by n false e =
@@ -113,7 +113,7 @@ pub part_middle : (count i : ℕ) → 0 < i → i + 1 < count → part_at count 
 part_middle count i s h = rw (other_is 1 count (omega (arith, s, h)), other_is 0 i s, smaller_is (i + 1) count h) refl
 
 pub part_last : (count i : ℕ) → 0 < i → i + 1 ≡ count → part_at count i ≡ Last
-part_last count i s h = rw (other_is 1 count (omega (arith, s, h)), other_is 0 i s, same_is (i + 1) count h) refl
+part_last count i s h = rw (other_is 1 count (omega (arith, s, h)), other_is 0 i s, eq-eqb (i + 1) count h) refl
 
 -- ---- which bunch ends the payload
 

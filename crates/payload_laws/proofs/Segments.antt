@@ -2,6 +2,7 @@
 use Rattle.std.proofs.Common.{◌≡◌, ℕ, suc, ◌<◌, ◌≤◌, ◌%◌, ◌^◌, ◌==◌, List, [], ◌∷◌, ◌++◌, Bool, true, false, ◌&&◌, nat_lt, nat_le, Option, None, Ok, refl, ap, ◌∙◌, arith, append_assoc, length}
 use Rattle.std.specs.List.{flat_map, list_all}
 use Rattle.std.proofs.lemmas.Bool.Decides.{nat_tests}
+use Rattle.std.proofs.lemmas.Bool.{and_parts, and_from, le-leb, lt-ltb, eq-eqb}
 use Rattle.protocol_model.specs.Bits.{int_bits, packed_bits}
 use Rattle.protocol_model.specs.Reading.{◌>>=◌, give, int_at}
 use Rattle.protocol_model.specs.Value.{Segment}
@@ -11,7 +12,6 @@ use Rattle.connection_model.specs.Names.{is_letter, is_name_char, is_segment_nam
 use Rattle.connection_model.specs.PayloadReading.{PayloadReading, field, number_at, octets_at, may_fail, segment_at, segments_at, exports_at}
 use Rattle.payload_laws.specs.Limits.{IsSegment}
 use Rattle.payload_laws.specs.Passing.{AreLearnt}
-use Rattle.payload_laws.proofs.Tests.{left_of, right_of, both, most_is, below_is, same_is}
 use Rattle.payload_laws.proofs.Fields.{then_read, int_read, packed_read, must_read}
 use Rattle.payload_laws.proofs.Args.{octets_read}
 
@@ -25,12 +25,12 @@ letter_small c h = grind (arith, nat_tests)
 
 chars_small : (cs : List ℕ) → list_all is_name_char cs ≡ true → list_all (λ b. nat_lt b 256) cs ≡ true
 chars_small [] h = refl
-chars_small (c ∷ cs) h = both (nat_lt c 256) (list_all (λ b. nat_lt b 256) cs) (below_is c 256 (char_small c (left_of _ _ h))) (chars_small cs (right_of _ _ h))
+chars_small (c ∷ cs) h = and_from (nat_lt c 256) (list_all (λ b. nat_lt b 256) cs) (lt-ltb c 256 (char_small c (and_parts _ _ h).0)) (chars_small cs (and_parts _ _ h).1)
 
 -- the characters of a name are bytes
 pub name_bytes : (name : List ℕ) → is_segment_name name ≡ true → list_all (λ b. nat_lt b 256) name ≡ true
 name_bytes [] h = refl
-name_bytes (c ∷ cs) h = both (nat_lt c 256) (list_all (λ b. nat_lt b 256) cs) (below_is c 256 (letter_small c (left_of _ _ h))) (chars_small cs (right_of _ _ h))
+name_bytes (c ∷ cs) h = and_from (nat_lt c 256) (list_all (λ b. nat_lt b 256) cs) (lt-ltb c 256 (letter_small c (and_parts _ _ h).0)) (chars_small cs (and_parts _ _ h).1)
 
 -- a name isn't empty
 pub name_some : (name : List ℕ) → is_segment_name name ≡ true → 1 ≤ length name
@@ -40,7 +40,7 @@ name_some (c ∷ cs) h = omega arith
 -- ---- segments
 
 odd_least : (g : ℕ) → g % 2 ≡ 1 → 3 ≤ g → (g % 2 == 1 && nat_le 3 g) ≡ true
-odd_least g o l = both (g % 2 == 1) (nat_le 3 g) (same_is (g % 2) 1 o) (most_is 3 g l)
+odd_least g o l = and_from (g % 2 == 1) (nat_le 3 g) (eq-eqb (g % 2) 1 o) (le-leb 3 g l)
 
 four : (a b c d r : List Bool) → (a ++ b ++ c ++ d) ++ r ≡ a ++ (b ++ (c ++ (d ++ r)))
 four a b c d r = simp append_assoc
@@ -60,7 +60,7 @@ segment_read s rest is =
     (must_read number_at (λ g. g % 2 == 1 && nat_le 3 g) _ (packed_bits s.guid ++ at_outer) s.guid at_outer (packed_read _ s.guid at_outer is.guid) (odd_least s.guid is.odd is.least))
     (then_read number_at (with_outer s.guid) at_outer s.outer at_size (Ok (s, rest)) (packed_read _ s.outer at_size is.outer)
     (then_read (field (int_at 64) (λ n. nat_le 1 n && nat_le n 31)) (with_size s.guid s.outer) at_size (length s.name) at_name (Ok (s, rest))
-    (must_read (int_at 64) (λ n. nat_le 1 n && nat_le n 31) _ at_size (length s.name) at_name (int_read 64 (length s.name) at_name (omega (arith, short)) (omega arith)) (both (nat_le 1 (length s.name)) (nat_le (length s.name) 31) (most_is 1 (length s.name) some) (most_is (length s.name) 31 short)))
+    (must_read (int_at 64) (λ n. nat_le 1 n && nat_le n 31) _ at_size (length s.name) at_name (int_read 64 (length s.name) at_name (omega (arith, short)) (omega arith)) (and_from (nat_le 1 (length s.name)) (nat_le (length s.name) 31) (le-leb 1 (length s.name) some) (le-leb (length s.name) 31 short)))
     (then_read (field (octets_at (length s.name)) is_segment_name) (with_name s.guid s.outer) at_name s.name rest (Ok (s, rest))
     (must_read (octets_at (length s.name)) is_segment_name _ at_name s.name rest (octets_read s.name rest (name_bytes s.name is.name)) is.name) refl)))
 
@@ -92,5 +92,5 @@ exports_read names (s ∷ exports) rest few l =
     let back : List Bool = flat_map segment_bits all ++ rest in
     ap (exports_at true names) (append_assoc (packed_bits (length all)) (flat_map segment_bits all) rest)
     ∙ then_read (field number_at (λ n. nat_le 1 n)) (λ count. segments_at names count) (packed_bits (length all) ++ back) (length all) back (Ok (all, rest))
-    (must_read number_at (λ n. nat_le 1 n) _ (packed_bits (length all) ++ back) (length all) back (packed_read _ (length all) back few) (most_is 1 (length all) (omega arith)))
+    (must_read number_at (λ n. nat_le 1 n) _ (packed_bits (length all) ++ back) (length all) back (packed_read _ (length all) back few) (le-leb 1 (length all) (omega arith)))
     (segments_read names all rest l)

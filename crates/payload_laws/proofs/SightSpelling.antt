@@ -2,6 +2,7 @@
 use Rattle.std.proofs.Common.{◌≡◌, ℕ, ℤ, zero, suc, ◌<◌, ◌≤◌, ◌+◌, ◌*◌, ◌==◌, List, [], ◌∷◌, Bool, true, false, not, ◌&&◌, cond, nat_le, Option, Some, None, slice_get, filter, map, refl, sym, ap, ◌∙◌, subst, arith, length}
 use Rattle.std.specs.List.{filter_map, cons_option, range_with_len}
 use Rattle.std.proofs.lemmas.Bool.Decides.{nat_tests}
+use Rattle.std.proofs.lemmas.Bool.{ltb-true}
 use Rattle.protocol_model.specs.Search.{is_among}
 use Rattle.protocol_model.specs.Value.{Class, Table, Pair}
 use Rattle.protocol_model.specs.World.{Edits, Spawn, Destroy, Set, Own, View, Add, Dormant, Wake, Flush, Switch, Team, Give, Spawned, spawn_count, spawn_of, actors_of, class_at, class_in, class_of, lives}
@@ -13,7 +14,6 @@ use Rattle.connection_model.specs.Feed.{Past}
 use Rattle.connection_model.specs.Carry.{is_updatable, updatable_pairs, is_due_pair, due_pairs}
 use Rattle.payload_laws.specs.Limits.{HasLimits, IsActor, AreValues}
 use Rattle.payload_laws.specs.Accepted.{AreAccepted, StandsIn, IsShown}
-use Rattle.payload_laws.proofs.Tests.{below_of}
 use Rattle.payload_laws.proofs.WorldValues.{same_some, taken, count_more, count_other}
 use Rattle.payload_laws.proofs.SightValues.{actor_sound, visible_fit}
 
@@ -78,7 +78,7 @@ spawns_here table edits k class x y false e there most later =
 pub spawns : (table : Table) (edits : Edits) (k : ℕ) → AreAccepted table edits → 1 ≤ k → k ≤ spawn_count edits → Spawns table edits (2 * k)
 spawns table [] k ok one most = absurd (omega (arith, one, most))
 spawns table (Spawn class x y ∷ edits) k ok one most =
-    spawns_here table edits k class x y (2 * k == 2 * (spawn_count edits + 1)) refl (below_of class (length table) (taken table edits (Spawn class x y) ok.0).range) (omega (arith, most, count_more class x y edits)) (λ less. spawns table edits k ok.2 one less)
+    spawns_here table edits k class x y (2 * k == 2 * (spawn_count edits + 1)) refl (ltb-true class (length table) (taken table edits (Spawn class x y) ok.0).range) (omega (arith, most, count_more class x y edits)) (λ less. spawns table edits k ok.2 one less)
 spawns table (Destroy b ∷ edits) k ok one most = let s = spawns table edits k ok.2 one (omega (arith, most, count_other (Destroy b) edits refl)) in record { spawned = s.spawned; is = s.is; class_there = s.class_there }
 spawns table (Set b h v ∷ edits) k ok one most = let s = spawns table edits k ok.2 one (omega (arith, most, count_other (Set b h v) edits refl)) in record { spawned = s.spawned; is = s.is; class_there = s.class_there }
 spawns table (Own b p ∷ edits) k ok one most = let s = spawns table edits k ok.2 one (omega (arith, most, count_other (Own b p) edits refl)) in record { spawned = s.spawned; is = s.is; class_there = s.class_there }

@@ -1,6 +1,7 @@
 -- Only a field that was spelled is read.
 use Rattle.std.proofs.Common.{◌≡◌, ℕ, ℤ, pos, ◌<◌, ◌≤◌, ◌+◌, ◌-◌, ◌^◌, List, ◌++◌, Bool, true, false, cond, nat_lt, nat_le, length, Option, Some, None, Result, Ok, Err, refl, sym, ap, ◌∙◌, subst, arith}
 use Rattle.std.proofs.lemmas.Bool.Decides.{nat_tests}
+use Rattle.std.proofs.lemmas.Bool.{and_parts, lt-ltb, leb-true}
 use Rattle.protocol_model.specs.declared.Kind.{Kind}
 use Rattle.protocol_model.specs.declared.Kind.TheVariants.{U8, I32, U32, I64, Packed, Guid, Enum, Bytes}
 use Rattle.protocol_model.specs.declared.NumRefusal.{NumRefusal}
@@ -15,7 +16,6 @@ use Rattle.table_model.specs.Facts.{is_type}
 use Rattle.protocol_laws.proofs.IntLaws.{int-spelled}
 use Rattle.protocol_laws.proofs.PackedLaws.{packed-spelled}
 use Rattle.protocol_laws.proofs.Reading.{leading_fixed-spelled}
-use Rattle.payload_laws.proofs.Tests.{left_of, below_is, most_of}
 use Rattle.payload_laws.proofs.Fields.{Answer}
 use Rattle.payload_laws.proofs.Values.{turned, twice_is, small_count}
 
@@ -93,19 +93,19 @@ fixed_was : (w : ℕ) (v : ℤ) (bits rest : List Bool) → natural_at (fixed_at
 fixed_was w v bits rest h =
     let n = natural_of (fixed_at w) bits v rest h in
     let s = fixed_spelled w n.0 bits rest n.1 in
-    subst (λ (z : ℤ). (is_below (2 ^ w) z ≡ true) × (bits ≡ fixed_bits w (natural z) ++ rest)) n.2 (below_is n.0 (2 ^ w) s.0, s.1)
+    subst (λ (z : ℤ). (is_below (2 ^ w) z ≡ true) × (bits ≡ fixed_bits w (natural z) ++ rest)) n.2 (lt-ltb n.0 (2 ^ w) s.0, s.1)
 
 int_was : (max : ℕ) (v : ℤ) (bits rest : List Bool) → 1 ≤ max → max ≤ 2 ^ 32 → natural_at (int_at max) bits ≡ Ok (v, rest) → (is_below max v ≡ true) × (bits ≡ int_bits max (natural v) ++ rest)
 int_was max v bits rest l m h =
     let n = natural_of (int_at max) bits v rest h in
     let s = int_spelled max n.0 bits rest l m n.1 in
-    subst (λ (z : ℤ). (is_below max z ≡ true) × (bits ≡ int_bits max (natural z) ++ rest)) n.2 (below_is n.0 max s.0, s.1)
+    subst (λ (z : ℤ). (is_below max z ≡ true) × (bits ≡ int_bits max (natural z) ++ rest)) n.2 (lt-ltb n.0 max s.0, s.1)
 
 packed_was : (v : ℤ) (bits rest : List Bool) → natural_at number_at bits ≡ Ok (v, rest) → (is_below (2 ^ 32) v ≡ true) × (bits ≡ packed_bits (natural v) ++ rest)
 packed_was v bits rest h =
     let n = natural_of number_at bits v rest h in
     let s = packed_spelled None n.0 bits rest n.1 in
-    subst (λ (z : ℤ). (is_below (2 ^ 32) z ≡ true) × (bits ≡ packed_bits (natural z) ++ rest)) n.2 (below_is n.0 (2 ^ 32) s.0, s.1)
+    subst (λ (z : ℤ). (is_below (2 ^ 32) z ≡ true) × (bits ≡ packed_bits (natural z) ++ rest)) n.2 (lt-ltb n.0 (2 ^ 32) s.0, s.1)
 
 signed_by : (w n : ℕ) (b : Bool) → nat_lt n (2 ^ w) ≡ b → n < 2 ^ (w + 1) → (is_within (2 ^ w) (signed_of w n) ≡ true) × (digits (w + 1) n ≡ signed_bits (w + 1) (signed_of w n))
 signed_by w n true e h = rw (e, signed_of) (e, refl)
@@ -115,7 +115,7 @@ signed_by w n false e h =
     let m = 2 ^ (w + 1) - 1 - n in
     let sum : n + m + 1 ≡ 2 ^ (w + 1) = omega (arith, h) in
     let small : m < 2 ^ w = omega (arith, h, twice, high) in
-    rw (e, signed_of) (below_is m (2 ^ w) small, sym (turned (w + 1) n m sum))
+    rw (e, signed_of) (lt-ltb m (2 ^ w) small, sym (turned (w + 1) n m sum))
 
 signed_was : (w : ℕ) (v : ℤ) (bits rest : List Bool) → signed_at {Why = Option Cause} w bits ≡ Ok (v, rest) → (is_within (2 ^ w) v ≡ true) × (bits ≡ signed_bits (w + 1) v ++ rest)
 signed_was w v bits rest h =
@@ -137,6 +137,6 @@ value_spelled Packed v bits rest k h = packed_was v bits rest h
 value_spelled Guid v bits rest k h = packed_was v bits rest h
 value_spelled (Enum count) v bits rest k h =
     let small = small_count false count k in
-    let some = most_of 2 count (left_of (nat_le 2 count) (nat_le count 65535) k) in
+    let some = leb-true 2 count (and_parts (nat_le 2 count) (nat_le count 65535) k).0 in
     int_was count v bits rest (omega (arith, some)) (omega (arith, small)) h
 value_spelled (Bytes most) v bits rest k h = absurd (cc)

@@ -4,6 +4,7 @@ use Rattle.std.specs.Prelude.{⊤}
 use Rattle.std.specs.List.{list_all}
 use Rattle.std.specs.Char.{is_ascii_alphabetic}
 use Rattle.std.proofs.lemmas.Bool.Decides.{nat_tests}
+use Rattle.std.proofs.lemmas.Bool.{and_parts, and_from, ltb-true, eqb-true}
 use Rattle.protocol_model.specs.Value.{Prop, Segment, Class, guid_of, class_guid}
 use Rattle.table_model.specs.Words as Words
 use Rattle.table_model.specs.Facts.{IsTable, IsClass, is_type, is_prop, is_chain}
@@ -12,13 +13,12 @@ use Rattle.table_model.specs.Grammar.{table_of}
 use Rattle.connection_model.specs.Names as Names
 use Rattle.connection_model.specs.Names.{class_named, path_up, same_names}
 use Rattle.payload_laws.specs.Limits.{HasLimits, AreSegments}
-use Rattle.payload_laws.proofs.Tests.{left_of, right_of, both, below_of, same_of}
 
 -- ---- limits
 
 types_of : (props : List Prop) → list_all is_prop props ≡ true → list_all (λ (p : Prop). is_type false p.kind) props ≡ true
 types_of [] h = refl
-types_of (p ∷ props) h = both (is_type false p.kind) _ (right_of _ _ (left_of _ _ (left_of _ _ h))) (types_of props (right_of _ _ h))
+types_of (p ∷ props) h = and_from (is_type false p.kind) _ (and_parts _ _ (and_parts _ _ (and_parts _ _ h).0).0).1 (types_of props (and_parts _ _ h).1)
 
 pub class_limits : (before : List Entry) (e : Entry) → IsClass before e → HasLimits e.class
 class_limits before e is = record { props = types_of e.class.props is.props; calls = is.calls; handles = is.handles; call_count = is.calls_most }
@@ -58,7 +58,7 @@ named_limits entries names guid class is h = by_path (path_up names 8 guid) h
 
 chars_same : (cs : List ℕ) → list_all Words.is_name_byte cs ≡ true → list_all Names.is_name_char cs ≡ true
 chars_same [] h = refl
-chars_same (c ∷ cs) h = both (Names.is_name_char c) (list_all Names.is_name_char cs) (one c (left_of _ _ h)) (chars_same cs (right_of _ _ h))
+chars_same (c ∷ cs) h = and_from (Names.is_name_char c) (list_all Names.is_name_char cs) (one c (and_parts _ _ h).0) (chars_same cs (and_parts _ _ h).1)
   where
     one : (c : ℕ) → Words.is_name_byte c ≡ true → Names.is_name_char c ≡ true
     one c h = grind (arith, nat_tests)
@@ -67,8 +67,8 @@ chars_same (c ∷ cs) h = both (Names.is_name_char c) (list_all Names.is_name_ch
 pub name_same : (name : List ℕ) → Words.is_name name ≡ true → (Names.is_segment_name name ≡ true) × (length name ≤ 31)
 name_same [] h = absurd (cc)
 name_same (c ∷ cs) h =
-    let few : length cs < 31 = below_of (length cs) 31 (right_of _ _ h) in (
-      both (Names.is_letter c) (list_all Names.is_name_char cs) (first c (left_of (is_ascii_alphabetic c) _ (left_of _ _ h))) (chars_same cs (right_of _ _ (left_of _ _ h))),
+    let few : length cs < 31 = ltb-true (length cs) 31 (and_parts _ _ h).1 in (
+      and_from (Names.is_letter c) (list_all Names.is_name_char cs) (first c (and_parts (is_ascii_alphabetic c) _ (and_parts _ _ h).0).0) (chars_same cs (and_parts _ _ (and_parts _ _ h).0).1),
       omega (arith, few),
     )
   where
@@ -102,8 +102,8 @@ chain_segments outer (s ∷ path) o h n =
     let i = n.0.0 in
     let few = n.0.1 in
     let guid = n.0.2 in
-    let named = name_same s.name (right_of _ _ (left_of _ _ h)) in
-    let under : s.outer ≡ outer = same_of s.outer outer (left_of _ _ (left_of _ _ h)) in (
+    let named = name_same s.name (and_parts _ _ (and_parts _ _ h).0).1 in
+    let under : s.outer ≡ outer = eqb-true s.outer outer (and_parts _ _ (and_parts _ _ h).0).0 in (
       record {
         odd = omega (arith, guid);
         least = omega (arith, guid);
@@ -112,7 +112,7 @@ chain_segments outer (s ∷ path) o h n =
         name = named.0;
         short = named.1;
       },
-      chain_segments s.guid path (omega (arith, guid, few)) (right_of _ _ h) n.1,
+      chain_segments s.guid path (omega (arith, guid, few)) (and_parts _ _ h).1 n.1,
     )
 
 -- each segment of a class's path can be exported

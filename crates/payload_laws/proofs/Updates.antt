@@ -1,12 +1,12 @@
 -- An update holds the longest prefix of the due handles that its limit lets through.
 use Rattle.std.proofs.Common.{◌≡◌, ℕ, zero, suc, ◌<◌, ◌≤◌, List, [], ◌∷◌, Bool, true, false, nat_le, take, refl, arith, length}
+use Rattle.std.proofs.lemmas.Bool.{leb-true, le-leb}
 use Rattle.protocol_model.specs.Search.{longest_prefix}
 use Rattle.protocol_model.specs.Value.{Pair, Class, handle_count}
 use Rattle.protocol_model.specs.Payload.{kind_at, message_bits, parts_of}
 use Rattle.protocol_model.specs.Sight.{Seen}
 use Rattle.connection_model.specs.Items.{update_message, update_pairs}
 use Rattle.payload_laws.specs.Limits.{HasLimits, AreValues}
-use Rattle.payload_laws.proofs.Tests.{most_of, most_is}
 use Rattle.payload_laws.proofs.Values.{kind_is}
 use Rattle.payload_laws.proofs.Lengths.{message_length}
 use Rattle.payload_laws.proofs.Bounds.{packed_two, value_most, one_part}
@@ -48,7 +48,7 @@ longest test (suc most) xs = longest_by test most xs (test (take (suc most) xs))
 pub update_most : (seen : Seen) (due : List Pair) → length (message_bits (update_message seen (update_pairs seen due))) ≤ 6000
 update_most seen due =
     let of = longest (λ (pairs : List Pair). nat_le (length (message_bits (update_message seen pairs))) 6000) (length due) due in
-    most_of _ 6000 (of.passes (most_is _ 6000 (omega (arith, message_length (update_message seen [])))))
+    leb-true _ 6000 (of.passes (le-leb _ 6000 (omega (arith, message_length (update_message seen [])))))
 
 -- a front of values of ascending handles is such values
 pub front_fits : (class : Class) (last count : ℕ) (values : List Pair) → AreValues class last values → AreValues class last (take count values)
@@ -59,7 +59,7 @@ front_fits class last (suc count) (p ∷ pairs) v = (v.0, v.1, v.2, front_fits c
 first_fits : (seen : Seen) (p : Pair) → HasLimits seen.class → p.handle ≤ handle_count seen.class → nat_le (length (message_bits (update_message seen (p ∷ [])))) 6000 ≡ true
 first_fits seen p limits h =
     let few = limits.handles in
-    most_is _ 6000 (omega (
+    le-leb _ 6000 (omega (
       arith,
       message_length (update_message seen (p ∷ [])),
       packed_two p.handle (omega (arith, h, few)),

@@ -3,6 +3,7 @@ use Rattle.std.proofs.Common.{◌≡◌, ℕ, ℤ, zero, suc, pos, negsuc, ◌<�
 use Rattle.std.specs.List.{list_all}
 use Rattle.std.proofs.lemmas.Bool.Decides.{nat_tests}
 use Rattle.std.proofs.Math.Nat.{pow-suc}
+use Rattle.std.proofs.lemmas.Bool.{and_parts, ltb-true, lt-ltb, le-ltb, leb-true}
 use Rattle.protocol_model.specs.declared.Kind.{Kind}
 use Rattle.protocol_model.specs.declared.Cause.{Cause}
 use Rattle.protocol_model.specs.declared.Kind.TheVariants.{U8, I32, U32, I64, Packed, Guid, Enum, Bytes}
@@ -13,22 +14,21 @@ use Rattle.protocol_model.specs.Payload.{natural, value_bits, kind_at}
 use Rattle.connection_model.specs.PayloadReading.{PayloadReading, natural_at, number_at, value_at}
 use Rattle.table_model.specs.Facts.{is_type}
 use Rattle.payload_laws.specs.Limits.{HasLimits}
-use Rattle.payload_laws.proofs.Tests.{left_of, right_of, below_of, below_is, not_below_is, most_of}
 use Rattle.payload_laws.proofs.Fields.{then_read, int_read, packed_read, fixed_read}
 
 natural_read : (read : PayloadReading ℕ) (bits : List Bool) (n : ℕ) (rest : List Bool) → read bits ≡ Ok (n, rest) → natural_at read bits ≡ Ok (pos n, rest)
 natural_read read bits n rest h = then_read read (λ n. give (pos n)) bits n rest (Ok (pos n, rest)) h refl
 
 fixed_value : (w : ℕ) (v : ℤ) (rest : List Bool) → is_below (2 ^ w) v ≡ true → natural_at (fixed_at w) (fixed_bits w (natural v) ++ rest) ≡ Ok (v, rest)
-fixed_value w (pos n) rest h = natural_read (fixed_at w) (fixed_bits w n ++ rest) n rest (fixed_read w n rest (below_of n (2 ^ w) h))
+fixed_value w (pos n) rest h = natural_read (fixed_at w) (fixed_bits w n ++ rest) n rest (fixed_read w n rest (ltb-true n (2 ^ w) h))
 fixed_value w (negsuc n) rest h = absurd (cc)
 
 packed_value : (v : ℤ) (rest : List Bool) → is_below (2 ^ 32) v ≡ true → natural_at number_at (packed_bits (natural v) ++ rest) ≡ Ok (v, rest)
-packed_value (pos n) rest h = natural_read number_at (packed_bits n ++ rest) n rest (packed_read _ n rest (below_of n (2 ^ 32) h))
+packed_value (pos n) rest h = natural_read number_at (packed_bits n ++ rest) n rest (packed_read _ n rest (ltb-true n (2 ^ 32) h))
 packed_value (negsuc n) rest h = absurd (cc)
 
 int_value : (max : ℕ) (v : ℤ) (rest : List Bool) → max ≤ 2 ^ 32 → is_below max v ≡ true → natural_at (int_at max) (int_bits max (natural v) ++ rest) ≡ Ok (v, rest)
-int_value max (pos n) rest m h = natural_read (int_at max) (int_bits max n ++ rest) n rest (int_read max n rest (below_of n max h) m)
+int_value max (pos n) rest m h = natural_read (int_at max) (int_bits max n ++ rest) n rest (int_read max n rest (ltb-true n max h) m)
 int_value max (negsuc n) rest m h = absurd (cc)
 
 -- ---- two's complement
@@ -55,21 +55,21 @@ signed_is w n v rest h e = then_read (fixed_at (w + 1)) (λ n. give (signed_of w
 
 signed_value : (w : ℕ) (v : ℤ) (rest : List Bool) → is_within (2 ^ w) v ≡ true → signed_at {Why = Option Cause} w (signed_bits (w + 1) v ++ rest) ≡ Ok (v, rest)
 signed_value w (pos n) rest h =
-    let small : n < 2 ^ w = below_of n (2 ^ w) h in
-    signed_is w n (pos n) rest (omega (arith, small, twice_is w)) (rw (below_is n (2 ^ w) small) refl)
+    let small : n < 2 ^ w = ltb-true n (2 ^ w) h in
+    signed_is w n (pos n) rest (omega (arith, small, twice_is w)) (rw (lt-ltb n (2 ^ w) small) refl)
 signed_value w (negsuc n) rest h =
-    let small : n < 2 ^ w = below_of n (2 ^ w) h in
+    let small : n < 2 ^ w = ltb-true n (2 ^ w) h in
     let twice : 2 ^ (w + 1) ≡ 2 * 2 ^ w = twice_is w in
     let m = 2 ^ (w + 1) - 1 - n in
     let sum : m + n + 1 ≡ 2 ^ (w + 1) = omega (arith, small, twice) in
     let high : 2 ^ w ≤ m = omega (arith, small, twice) in
     let back : 2 ^ (w + 1) - 1 - m ≡ n = omega (arith, small, twice) in
-    rw (turned (w + 1) m n sum) (signed_is w m (negsuc n) rest (omega (arith, sum)) (rw (not_below_is m (2 ^ w) high, back) refl))
+    rw (turned (w + 1) m n sum) (signed_is w m (negsuc n) rest (omega (arith, sum)) (rw (le-ltb m (2 ^ w) high, back) refl))
 
 -- ---- a value of a kind
 
 pub small_count : (argument : Bool) (count : ℕ) → is_type argument (Enum count) ≡ true → count ≤ 65535
-small_count argument count h = most_of count 65535 (right_of (nat_le 2 count) (nat_le count 65535) h)
+small_count argument count h = leb-true count 65535 (and_parts (nat_le 2 count) (nat_le count 65535) h).1
 
 pub value_read : (argument : Bool) (kind : Kind) (v : ℤ) (rest : List Bool) → is_type argument kind ≡ true → fits kind v ≡ true → value_at kind (value_bits kind v ++ rest) ≡ Ok (v, rest)
 value_read argument Kind.Bool v rest k f = fixed_value 1 v rest f
@@ -86,8 +86,8 @@ value_read argument (Bytes most) v rest k f = absurd (cc)
 
 kinds_all : (props : List Prop) (h : ℕ) → list_all (λ (p : Prop). is_type false p.kind) props ≡ true → is_type false (unwrap_or (option_map (λ (p : Prop). p.kind) (slice_get props h)) Kind.Bool) ≡ true
 kinds_all [] h k = refl
-kinds_all (p ∷ props) zero k = left_of _ _ k
-kinds_all (p ∷ props) (suc h) k = kinds_all props h (right_of _ _ k)
+kinds_all (p ∷ props) zero k = (and_parts _ _ k).0
+kinds_all (p ∷ props) (suc h) k = kinds_all props h (and_parts _ _ k).1
 
 -- each handle has a kind that a table may name
 pub kind_is : (class : Class) (h : ℕ) → HasLimits class → is_type false (kind_at class h) ≡ true
