@@ -2,7 +2,7 @@
 use Rattle.std.proofs.Common.{◌≡◌, ◌≢◌, ℕ, ◌==◌, List, [], ◌∷◌, Bool, true, false, ◌||◌, cond, nat_lt, Option, Some, None, is_some, filter, find, refl, sym, ap, ◌∙◌}
 use Rattle.std.specs.Bool.{then_some}
 use Rattle.std.specs.List.{filter_map, cons_option}
-use Rattle.std.proofs.lemmas.Bool.{eqb-true, eq-eqb}
+use Rattle.std.proofs.lemmas.Bool.{eqb-true, eq-eqb, or_right}
 use Rattle.protocol_model.specs.Search.{is_among, newest_of, items_since, insert_in_order, in_order, each_once, ascending_numbers}
 use Rattle.protocol_model.specs.Value.{Class}
 use Rattle.protocol_model.specs.Payload.{Message, Opens, Closes, Updates, Calls, Gone}
@@ -16,10 +16,6 @@ or_same true true z = refl
 or_same true false z = refl
 or_same false true z = refl
 or_same false false z = refl
-
-or_right : (x y : Bool) → y ≡ true → (x || y) ≡ true
-or_right true y h = refl
-or_right false y h = h
 
 among_insert : (a x : ℕ) (ys : List ℕ) → is_among a (insert_in_order nat_lt x ys) ≡ (x == a || is_among a ys)
 among_insert a x [] = refl

@@ -1,6 +1,6 @@
 -- The flags of the bunch in which a message is read are those of the message.
 use Rattle.std.proofs.Common.{◌≡◌, ◌==◌, List, Bool, true, false, not, ◌&&◌, ◌||◌, cond, nat_lt, Ok, refl, sym}
-use Rattle.std.proofs.lemmas.Bool.{and_parts}
+use Rattle.std.proofs.lemmas.Bool.{and_parts, not-true, or_right}
 use Rattle.protocol_model.specs.declared.Version.{Version}
 use Rattle.protocol_model.specs.Side.{Side, AtServer, AtClient}
 use Rattle.protocol_model.specs.Value.{Table}
@@ -20,10 +20,6 @@ neither_left false y h = refl
 neither_right : (x y : Bool) → (x || y) ≡ false → y ≡ false
 neither_right true y h = absurd (cc)
 neither_right false y h = h
-
-not_of : (x : Bool) → not x ≡ true → x ≡ false
-not_of true h = cc
-not_of false h = refl
 
 is_of : (x : Bool) → not x ≡ false → x ≡ true
 is_of true h = refl
@@ -93,10 +89,6 @@ gone_told false true o h = absurd (cc)
 gone_told false false true h = absurd (cc)
 gone_told false false false h = absurd (cc)
 
-or_true : (x y : Bool) → y ≡ true → (x || y) ≡ true
-or_true true y h = refl
-or_true false y h = h
-
 closed_alone : (o c : Bool) → not (o && c) ≡ true → c ≡ true → o ≡ false
 closed_alone true true h e = cc
 closed_alone true false h e = absurd (cc)
@@ -121,7 +113,7 @@ client_begins table past first bits (Opens exports actor class values) h t s =
 client_begins table past first bits (Closes actor sleeps) h t s =
     let f = close_told (first.channel == 0) first.closes first.opens t in
     let o : first.opens ≡ false = closed_alone first.opens first.closes h.control f.1 in
-    record { opens = o; closes = f.1; sleeps = sym s.2; exports = implied_not first.exports first.opens h.exports o; reliable = implied (first.opens || first.closes) first.reliable h.sure (or_true first.opens first.closes f.1); channel = f.0 }
+    record { opens = o; closes = f.1; sleeps = sym s.2; exports = implied_not first.exports first.opens h.exports o; reliable = implied (first.opens || first.closes) first.reliable h.sure (or_right first.opens first.closes f.1); channel = f.0 }
 client_begins table past first bits (Updates actor class values) h t s =
     let f = plain_told (first.channel == 0) first.closes first.opens t in
     let p = plain_begins first h f.2 f.1 in
@@ -142,10 +134,10 @@ server_begins table past first bits (Closes actor sleeps) h o c t s = let no : f
 server_begins table past first bits (Gone actor) h o c t s = let no : false ≡ true = (and_parts (not (first.channel == 0)) false t).1 in absurd (cc)
 server_begins table past first bits (Updates actor class values) h o c t s =
     let p = plain_begins first h o c in
-    record { opens = o; closes = c; sleeps = p.0; exports = p.1; reliable = s.1; channel = not_of (first.channel == 0) (and_parts _ _ t).0 }
+    record { opens = o; closes = c; sleeps = p.0; exports = p.1; reliable = s.1; channel = not-true (first.channel == 0) (and_parts _ _ t).0 }
 server_begins table past first bits (Calls actor number call args) h o c t s =
     let p = plain_begins first h o c in
-    record { opens = o; closes = c; sleeps = p.0; exports = p.1; reliable = s.1; channel = not_of (first.channel == 0) (and_parts _ _ t).0 }
+    record { opens = o; closes = c; sleeps = p.0; exports = p.1; reliable = s.1; channel = not-true (first.channel == 0) (and_parts _ _ t).0 }
 
 begins_at : (side : Side) (table : Table) (past : Past) (first : Bunch) (bits : List Bool) (message : Message) (version : Version) → is_bunch version first ≡ true → is_misplaced side first ≡ false → told side first message ≡ true → Spells side table past first bits message → Begins message first
 begins_at AtClient table past first bits message version b m t s = client_begins table past first bits message (header_of version AtClient first b m) t s

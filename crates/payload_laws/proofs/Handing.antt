@@ -2,6 +2,7 @@
 use Rattle.std.proofs.Common.{◌≡◌, ℕ, zero, suc, ◌<◌, ◌≤◌, ◌+◌, ◌==◌, List, [], ◌∷◌, ◌++◌, Bool, true, false, cond, not, ◌&&◌, nat_lt, nat_le, Some, None, is_none, Ok, refl, ap, ◌∙◌, arith, length}
 use Rattle.std.proofs.lemmas.Bool.Decides.{nat_tests}
 use Rattle.std.proofs.lemmas.Bool.{le-ltb, lt-ltb, eq-eqb}
+use Rattle.std.proofs.Math.Bool.{and-false}
 use Rattle.protocol_model.specs.Side.{Side, AtServer, AtClient}
 use Rattle.protocol_model.specs.Packet.{Bunch}
 use Rattle.protocol_model.specs.declared.Part.TheVariants.{Whole, First, Middle, Last}
@@ -15,10 +16,6 @@ use Rattle.connection_model.specs.Verdict.{lacks_copy, delivery_of, payload_resu
 use Rattle.payload_laws.specs.Parts.{bunches_from, kept_parts}
 use Rattle.protocol_laws.proofs.Bounds.{not_zero}
 use Rattle.payload_laws.proofs.Pieces.{counted, piece_length, part_whole, part_first, part_middle, part_last, ends_last, goes_on, kept_count, kept_first, joined_is}
-
-and_false : (x : Bool) → (x && false) ≡ false
-and_false true = refl
-and_false false = refl
 
 -- a close takes one part
 closing_one : (message : Message) → 1 < parts_of message → is_closing message ≡ false
@@ -52,7 +49,7 @@ are_kept : (kept : List Bunch) (i : ℕ) → length kept ≡ i → 0 < i → nat
 are_kept kept i e h = lt-ltb 0 (length kept) (omega (arith, e, h))
 
 later_opens : (message : Message) (i : ℕ) → 0 < i → (is_opening message && i == 0) ≡ false
-later_opens message i h = rw (not_zero i h) (and_false (is_opening message))
+later_opens message i h = rw (not_zero i h) (and-false (is_opening message))
 
 fault_whole : (ch n : ℕ) (message : Message) → part_fault [] (made_bunch ch n message 0) Whole ≡ None
 fault_whole ch n message = rw (not_oversize ch n message 0) refl

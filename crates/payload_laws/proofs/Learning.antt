@@ -4,6 +4,7 @@ use Rattle.std.specs.List.{fold}
 use Rattle.std.proofs.lemmas.Bool.Decides.{nat_tests}
 use Rattle.std.proofs.lemmas.Slice.Eq.{bytes_eq-Decides}
 use Rattle.std.proofs.lemmas.Bool.{and_parts, eqb-true, eq-eqb}
+use Rattle.std.proofs.lemmas.Option.{same_Some}
 use Rattle.protocol_model.specs.Value.{Segment}
 use Rattle.table_model.specs.Facts.{is_chain}
 use Rattle.connection_model.specs.Names.{name_known, is_same_segment, learn_fault, names_with}
@@ -13,16 +14,13 @@ use Rattle.payload_laws.specs.Learning.{StandAmong, AreAmong, Knows, KnowsAll, K
 
 -- ---- one segment
 
-pub same_some : {A : Type 0} (a b : A) → Some a ≡ Some b → a ≡ b
-same_some a b e = cc
-
 -- what is found under a guid has it
 pub found_guid : (names : List Segment) (g : ℕ) (s : Segment) → name_known names g ≡ Some s → (s.guid == g) ≡ true
 found_guid [] g s h = absurd (cc)
 found_guid (x ∷ names) g s h = by_test (x.guid == g) refl h (λ k. found_guid names g s k)
   where
     by_test : (b : Bool) → (x.guid == g) ≡ b → cond b (Some x) (name_known names g) ≡ Some s → (name_known names g ≡ Some s → (s.guid == g) ≡ true) → (s.guid == g) ≡ true
-    by_test true e h later = let same = same_some x s h in rw (← same) e
+    by_test true e h later = let same = same_Some x s h in rw (← same) e
     by_test false e h later = later h
 
 -- segments of one guid are one segment

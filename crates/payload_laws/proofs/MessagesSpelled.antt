@@ -2,7 +2,7 @@
 use Rattle.std.proofs.Common.{◌≡◌, ℕ, suc, ◌<◌, ◌%◌, ◌^◌, ◌==◌, List, [], ◌∷◌, ◌++◌, Bool, true, false, not, ◌&&◌, ◌||◌, cond, nat_lt, nat_le, Option, Some, None, unwrap_or, option_and_then, Ok, refl, sym, ap, ◌∙◌, subst, arith, append_assoc, append-nil, length}
 use Rattle.std.specs.List.{fold}
 use Rattle.std.specs.Bool.{beq}
-use Rattle.std.proofs.lemmas.Bool.{and_parts, and_from, leb-true, eqb-true}
+use Rattle.std.proofs.lemmas.Bool.{and_parts, and_from, leb-true, eqb-true, not-true}
 use Rattle.protocol_model.specs.declared.Way.{Way}
 use Rattle.protocol_model.specs.declared.Cause.{Cause}
 use Rattle.protocol_model.specs.declared.Cause.TheVariants.{BadChannel, UnknownGuid, Clash, ActorsFull}
@@ -59,10 +59,6 @@ class_of cause None bits class rest read = absurd (cc)
 unless_of : (rule : Bool) (cause : Cause) (bits : List Bool) (n : ℕ) (rest : List Bool) → unless rule cause bits ≡ Ok (n, rest) → (rule ≡ true) × (bits ≡ rest)
 unless_of rule cause bits n rest read = need_of rule (Some cause) bits n rest read
 
-not_of : (b : Bool) → not b ≡ true → b ≡ false
-not_of true h = cc
-not_of false h = refl
-
 -- what an end read, and that nothing was left
 abbrev pub Got : (Message → Bool) → Side → Table → Past → Bunch → List Bool → Message × List Bool → Type 0
 Got test side table past first bits got = (got.1 ≡ []) × Spells side table past first bits got.0 × (test got.0 ≡ true)
@@ -112,7 +108,7 @@ same_spelled past exports actor class bits got limits read =
     let end = ended_of (Opens exports actor class b.value) b.rest got b.second in
     record {
       values = b.value;
-      same = not_of _ same.0;
+      same = not-true _ same.0;
       all_fit = values.values;
       bits_are = same.1 ∙ values.bits_are ∙ ap (λ (xs : List Bool). list_bits class b.value ++ xs) end.0 ∙ append-nil (list_bits class b.value);
       is = end.1;
@@ -186,7 +182,7 @@ opened_spelled side table past ch exports bits got limits read =
       actor = a.value;
       rest = c.rest;
       is = actor.is;
-      here = not_of _ here.0;
+      here = not-true _ here.0;
       room = room.0;
       bits_are = actor.bits_are ∙ ap (λ (xs : List Bool). packed_bits a.value ++ xs) (here.1 ∙ room.1);
       guid = guid_spelled side table past exports a.value c.rest got limits c.second;

@@ -2,7 +2,7 @@
 use Rattle.std.proofs.Common.{◌≡◌, ℕ, suc, ◌≤◌, ◌+◌, ◌-◌, ◌==◌, List, [], ◌∷◌, ◌++◌, Bool, true, false, not, ◌&&◌, cond, Option, Some, option_and_then, slice_get, find, filter, map, bytes_eq, inl, refl, sym, ap, ◌∙◌, subst, arith, length, append_assoc, append-nil}
 use Rattle.std.specs.List.{list_all}
 use Rattle.std.proofs.lemmas.Slice.Eq.{bytes_eq-Decides}
-use Rattle.std.proofs.lemmas.Bool.{and_parts, and_from, eqb-true}
+use Rattle.std.proofs.lemmas.Bool.{and_parts, and_from, eqb-true, not-true}
 use Rattle.protocol_model.specs.Value.{Segment, Class, guid_of, class_guid}
 use Rattle.table_model.specs.Facts.{IsTable, is_chain, paths_differ}
 use Rattle.table_model.specs.Rules.{Entry, segments_of, path_names}
@@ -71,13 +71,9 @@ same_itself : (path : List Segment) → same_names path (path_names path) ≡ tr
 same_itself [] = refl
 same_itself (s ∷ path) = and_from (bytes_eq s.name s.name) (same_names path (path_names path)) ((bytes_eq-Decides s.name s.name).1 refl) (same_itself path)
 
-not_true : (b : Bool) → not b ≡ true → b ≡ false
-not_true true h = cc
-not_true false h = refl
-
 -- of paths that differ from the first, so does each
 differs_there : (path : List (List ℕ)) (before : List Entry) (e : Entry) (after : List Entry) → list_all (λ other. not (Rules.same_names path other)) (map (λ (e : Entry). path_names e.class.path) (before ++ e ∷ after)) ≡ true → Rules.same_names path (path_names e.class.path) ≡ false
-differs_there path [] e after h = not_true _ (and_parts _ _ h).0
+differs_there path [] e after h = not-true _ (and_parts _ _ h).0
 differs_there path (x ∷ before) e after h = differs_there path before e after (and_parts _ _ h).1
 
 first_found : (before : List Entry) (e : Entry) (after : List Entry) → paths_differ (map (λ (e : Entry). path_names e.class.path) (before ++ e ∷ after)) ≡ true → find (λ (class : Class). same_names class.path (path_names e.class.path)) (table_of (before ++ e ∷ after)) ≡ Some e.class
