@@ -1,7 +1,7 @@
 -- A player's `sent` lines are those of its server's feed.
 use Rattle.std.proofs.Common.{◌≡◌, inl, inr, ℕ, ◌+◌, ◌-◌, ◌==◌, List, [], ◌∷◌, ◌++◌, map, fold, length, drop, Bool, true, false, cond, not, ◌&&◌, nat_lt, refl, sym, ap, ◌∙◌, subst, Option, Some, None, filter_map, flat_map, option_map, slice_get, append-nil, if◌then◌else◌}
 use Rattle.std.specs.List.{cons_option, list_any}
-use Rattle.std.proofs.lemmas.Bool.{cases_Bool, cond_both, eqb-true, eq-eqb, or_parts}
+use Rattle.std.proofs.lemmas.Bool.{cases_Bool, cond_both, eqb-true, eq-eqb, or_parts, not-true}
 use Rattle.std.proofs.lemmas.List.Elements.{filter_map-append}
 use Rattle.protocol_model.specs.Side.{Side, AtServer, AtClient}
 use Rattle.protocol_model.specs.Value.{Table, Arg, Class}
@@ -427,12 +427,8 @@ once_without n line f (first ∷ before) after =
     ap (λ b. cond (joins n first) (not b) (joins_once n (before ++ after))) (any_skip (joins n) line f before after)
     ∙ ap (λ b. cond (joins n first) (not (list_any (joins n) (before ++ line ∷ after))) b) (once_without n line f before after)
 
-is_off : (b : Bool) → not b ≡ true → b ≡ false
-is_off true e = absurd (cc)
-is_off false e = refl
-
 unseen_joins : (table : Table) (n : ℕ) (before : List Line) (line : Line) (after : List Line) → is_unseen table n before line after ≡ true → joins n line ≡ false
-unseen_joins table n before (Join player budget version) after h = is_off (player == n) h
+unseen_joins table n before (Join player budget version) after h = not-true (player == n) h
 unseen_joins table n before (ApplyEdit x) after h = refl
 unseen_joins table n before TickAll after h = refl
 unseen_joins table n before (TickClient player) after h = refl

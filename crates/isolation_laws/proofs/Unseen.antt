@@ -1,7 +1,7 @@
 -- A line that a player doesn't see changes none of its feeds.
 use Rattle.std.proofs.Common.{map, ◌≡◌, inl, inr, ℕ, ◌==◌, List, [], ◌∷◌, ◌++◌, Bool, true, false, not, cond, ◌&&◌, refl, sym, ap, ◌∙◌, subst, Option, Some, None, filter_map, option_map, append_assoc, append-nil, ℤ}
 use Rattle.std.specs.List.{flat_map, cons_option}
-use Rattle.std.proofs.lemmas.Bool.{cases_Bool, or_cases, or_from, and_parts, eqb-true}
+use Rattle.std.proofs.lemmas.Bool.{cases_Bool, or_cases, or_from, and_parts, eqb-true, not-true}
 use Rattle.std.proofs.lemmas.List.Folds.{list_any-append}
 use Rattle.protocol_model.specs.Search.{is_among}
 use Rattle.protocol_model.specs.Sight.{Seen, is_relevant, seen_of, destroyed_of, entry_of}
@@ -17,7 +17,7 @@ use Rattle.headline_laws.proofs.StorySights.{player_shown}
 use Rattle.isolation_laws.specs.Unseen.{edit_in, edits_of, holds_along, holds_from, holds_always, is_irrelevant, is_owner_only, has_cond, hides_value, is_out_of_sight, is_of_other, is_unseen}
 use Rattle.isolation_laws.specs.Isolation.{asks, AskingChangesNothing, FeedsStayEqual}
 use Rattle.isolation_laws.proofs.Mine.{mine, mine_one, mine_other, found_number, other_line}
-use Rattle.isolation_laws.proofs.Unshown.{irrelevant, edit_unseen, destroy_unseen, value_unseen, owners_hidden, custom_hidden}
+use Rattle.isolation_laws.proofs.Unshown.{edit_unseen, destroy_unseen, value_unseen, owners_hidden, custom_hidden}
 use Rattle.isolation_laws.proofs.Follows.{with_edit, one_more, story_edits, story_more, Along, along, first_along, found_in, Course, follow, same_course, Blinds, edit_course}
 
 -- ---- worlds in which an actor is never relevant
@@ -71,7 +71,7 @@ never_among table n a (Tick s ∷ feed) edits w h =
     let before : AllWorlds (is_irrelevant table n a) h.1 = all_older (is_irrelevant table n a) h.0 h.1 (subst (AllWorlds (is_irrelevant table n a)) h.3 w) in
     list_any-append (λ k. k == a) (relevant_in (Tick s)) (flat_map relevant_in feed)
     ∙ or_from (is_among a (relevant_in (Tick s))) (is_among a (flat_map relevant_in feed))
-    (ap (λ (t : List Seen). is_among a (relevant_in (Tick t))) h.4 ∙ lacks table h.1 n a h.2 (irrelevant (is_relevant table h.1 n a) (now_holds (is_irrelevant table n a) h.1 before)) (actors_of h.1))
+    (ap (λ (t : List Seen). is_among a (relevant_in (Tick t))) h.4 ∙ lacks table h.1 n a h.2 (not-true (is_relevant table h.1 n a) (now_holds (is_irrelevant table n a) h.1 before)) (actors_of h.1))
     (never_among table n a feed h.1 before h.5)
 never_among table n a (Got bytes ∷ feed) edits w h = never_among table n a feed edits w h
 never_among table n a (Call b m args ∷ feed) edits w h = never_among table n a feed edits w h
@@ -148,7 +148,7 @@ owners_values_unseen table n before a h v after c k =
     (record {
       grows = λ one line t w. tt;
       shows = λ newer one q r s w p found. value_unseen table is_owner_only a h v newer (edits_of before) n (earlier_of p) refl c
-          (λ prop t. owners_hidden prop.cond (owns (newer ++ Set a h v ∷ edits_of before) n a) (is_on (newer ++ Set a h v ∷ edits_of before) a h) t (irrelevant (owns (newer ++ Set a h v ∷ edits_of before) n a) s));
+          (λ prop t. owners_hidden prop.cond (owns (newer ++ Set a h v ∷ edits_of before) n a) (is_on (newer ++ Set a h v ∷ edits_of before) a h) t (not-true (owns (newer ++ Set a h v ∷ edits_of before) n a) s));
     }) tt parts.0 parts.1
 
 -- values that are switched off
@@ -160,7 +160,7 @@ custom_values_unseen table n before a h v after c k =
     (record {
       grows = λ one line t w. tt;
       shows = λ newer one q r s w p found. value_unseen table is_custom a h v newer (edits_of before) n (earlier_of p) refl c
-          (λ prop t. custom_hidden prop.cond (owns (newer ++ Set a h v ∷ edits_of before) n a) (is_on (newer ++ Set a h v ∷ edits_of before) a h) t (irrelevant (is_on (newer ++ Set a h v ∷ edits_of before) a h) s));
+          (λ prop t. custom_hidden prop.cond (owns (newer ++ Set a h v ∷ edits_of before) n a) (is_on (newer ++ Set a h v ∷ edits_of before) a h) t (not-true (is_on (newer ++ Set a h v ∷ edits_of before) a h) s));
     }) tt parts.0 parts.1
 
 -- ---- all of them

@@ -8,9 +8,9 @@ use Rattle.protocol_model.specs.Payload.{Message}
 use Rattle.connection_model.specs.Feed.{End, Past, Deed, Ticked, Made, Waits, Sent, Took, Ended, Item, Carries}
 use Rattle.connection_model.specs.Fates.{last_sent, sent_in}
 use Rattle.connection_model.specs.Bunches.{made_count}
+use Rattle.protocol_laws.proofs.Greatest.{greatest_of-cons}
 use Rattle.connection_laws.specs.Deeds.{DeedsFit}
 use Rattle.connection_laws.specs.Link.{SaysItem, all_said, said_by}
-use Rattle.connection_laws.proofs.Searches.{greatest_of-cons}
 use Rattle.connection_laws.proofs.Counts.{made_count_same, made_count_other}
 use Rattle.connection_laws.proofs.PacketsSay.{IsIn, carried_facts}
 use Rattle.recovery_laws.specs.Faithful.{items_of}
