@@ -39,7 +39,7 @@ scalar_read : (kind : Kind) (v : ℤ) (rest : List Bool) → is_type true kind �
 scalar_read kind v rest k f = then_read (value_at kind) (λ v. give (Scalar v)) (value_bits kind v ++ rest) v rest (Ok (Scalar v, rest)) (value_read true kind v rest k f) refl
 
 -- an argument by its kind
-pub arg_read : (kind : Kind) (a : Arg) (rest : List Bool) → is_type true kind ≡ true → arg_fits kind a ≡ true → arg_at kind (arg_bits kind a ++ rest) ≡ Ok (a, rest)
+arg_read : (kind : Kind) (a : Arg) (rest : List Bool) → is_type true kind ≡ true → arg_fits kind a ≡ true → arg_at kind (arg_bits kind a ++ rest) ≡ Ok (a, rest)
 arg_read (Bytes most) (Octets bytes) rest k f = octets_arg_read most bytes rest (small_most most k) f
 arg_read (Bytes most) (Scalar v) rest k f = absurd (cc)
 arg_read Kind.Bool (Octets bytes) rest k f = absurd (cc)

@@ -198,7 +198,7 @@ past_limited end [] c n = tt
 past_limited end (event ∷ feed) c n = event_limited end (past_of end feed) event c n (past_limited end feed c n)
 
 -- a client knows no class without limits
-pub client_knows : (end : End) (feed : List Event) → end.side ≡ AtClient → Named end.table → KnowsLimits AtClient end.table (past_of end feed)
+client_knows : (end : End) (feed : List Event) → end.side ≡ AtClient → Named end.table → KnowsLimits AtClient end.table (past_of end feed)
 client_knows end feed c n = knows end.table (past_of end feed) n (past_limited end feed c n)
 
 -- with the table of accepted classes

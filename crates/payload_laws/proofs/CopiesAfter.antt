@@ -30,30 +30,30 @@ since_none past later d a e r = ap (items_since (removes a)) e ∙ rw r refl
 
 -- ---- a copy by what the payload says of it
 
-pub class_there : (past later : Past) (d : Delivered) (a : ℕ) (class : Class) → Applied past later d → removes a d ≡ false → class_opened a d ≡ Some class → copy_class later a ≡ Some class
+class_there : (past later : Past) (d : Delivered) (a : ℕ) (class : Class) → Applied past later d → removes a d ≡ false → class_opened a d ≡ Some class → copy_class later a ≡ Some class
 class_there past later d a class e r c = ap (newest_of (class_opened a)) (since_more past later d a e r) ∙ newest_there (class_opened a) d (since_removed past a) class c
 
-pub class_same : (past later : Past) (d : Delivered) (a : ℕ) → Applied past later d → removes a d ≡ false → class_opened a d ≡ None → copy_class later a ≡ copy_class past a
+class_same : (past later : Past) (d : Delivered) (a : ℕ) → Applied past later d → removes a d ≡ false → class_opened a d ≡ None → copy_class later a ≡ copy_class past a
 class_same past later d a e r c = ap (newest_of (class_opened a)) (since_more past later d a e r) ∙ newest_later (class_opened a) d (since_removed past a) c
 
-pub class_none : (past later : Past) (d : Delivered) (a : ℕ) → Applied past later d → removes a d ≡ true → copy_class later a ≡ None
+class_none : (past later : Past) (d : Delivered) (a : ℕ) → Applied past later d → removes a d ≡ true → copy_class later a ≡ None
 class_none past later d a e r = ap (newest_of (class_opened a)) (since_none past later d a e r)
 
-pub channel_there : (past later : Past) (d : Delivered) (a : ℕ) (o : Option ℕ) → Applied past later d → removes a d ≡ false → channel_said a d ≡ Some o → copy_channel later a ≡ o
+channel_there : (past later : Past) (d : Delivered) (a : ℕ) (o : Option ℕ) → Applied past later d → removes a d ≡ false → channel_said a d ≡ Some o → copy_channel later a ≡ o
 channel_there past later d a o e r c = ap (λ (x : Option (Option ℕ)). unwrap_or x None) (ap (newest_of (channel_said a)) (since_more past later d a e r) ∙ newest_there (channel_said a) d (since_removed past a) o c)
 
-pub channel_same : (past later : Past) (d : Delivered) (a : ℕ) → Applied past later d → removes a d ≡ false → channel_said a d ≡ None → copy_channel later a ≡ copy_channel past a
+channel_same : (past later : Past) (d : Delivered) (a : ℕ) → Applied past later d → removes a d ≡ false → channel_said a d ≡ None → copy_channel later a ≡ copy_channel past a
 channel_same past later d a e r c = ap (λ (x : Option (Option ℕ)). unwrap_or x None) (ap (newest_of (channel_said a)) (since_more past later d a e r) ∙ newest_later (channel_said a) d (since_removed past a) c)
 
 pub channel_none : (past later : Past) (d : Delivered) (a : ℕ) → Applied past later d → removes a d ≡ true → copy_channel later a ≡ None
 channel_none past later d a e r = ap (λ (x : Option (Option ℕ)). unwrap_or x None) (ap (newest_of (channel_said a)) (since_none past later d a e r))
 
-pub value_there : (past later : Past) (d : Delivered) (a h : ℕ) (v : ℤ) → Applied past later d → removes a d ≡ false → value_applied a h d ≡ Some v → copy_value later a h ≡ v
+value_there : (past later : Past) (d : Delivered) (a h : ℕ) (v : ℤ) → Applied past later d → removes a d ≡ false → value_applied a h d ≡ Some v → copy_value later a h ≡ v
 value_there past later d a h v e r c =
     ap (λ (x : Option ℤ). unwrap_or x (unwrap_or (option_map (λ (class : Class). initial_value class h) (copy_class later a)) (pos 0)))
     (ap (newest_of (value_applied a h)) (since_more past later d a e r) ∙ newest_there (value_applied a h) d (since_removed past a) v c)
 
-pub value_same : (past later : Past) (d : Delivered) (a h : ℕ) → Applied past later d → removes a d ≡ false → value_applied a h d ≡ None → copy_class later a ≡ copy_class past a → copy_value later a h ≡ copy_value past a h
+value_same : (past later : Past) (d : Delivered) (a h : ℕ) → Applied past later d → removes a d ≡ false → value_applied a h d ≡ None → copy_class later a ≡ copy_class past a → copy_value later a h ≡ copy_value past a h
 value_same past later d a h e r c k =
     ap (λ (x : Option ℤ). unwrap_or x (unwrap_or (option_map (λ (class : Class). initial_value class h) (copy_class later a)) (pos 0)))
     (ap (newest_of (value_applied a h)) (since_more past later d a e r) ∙ newest_later (value_applied a h) d (since_removed past a) c)
@@ -67,29 +67,29 @@ itself a = eq-eqb a a refl
 pub opens_keeps : (d : Delivered) (exports : List Segment) (actor : ℕ) (class : Class) (values : List Pair) (a : ℕ) → d.message ≡ Opens exports actor class values → removes a d ≡ false
 opens_keeps d exports actor class values a m = rw m refl
 
-pub opens_class : (d : Delivered) (exports : List Segment) (actor : ℕ) (class : Class) (values : List Pair) → d.message ≡ Opens exports actor class values → class_opened actor d ≡ Some class
+opens_class : (d : Delivered) (exports : List Segment) (actor : ℕ) (class : Class) (values : List Pair) → d.message ≡ Opens exports actor class values → class_opened actor d ≡ Some class
 opens_class d exports actor class values m = rw (m, itself actor) refl
 
-pub opens_channel : (d : Delivered) (exports : List Segment) (actor : ℕ) (class : Class) (values : List Pair) → d.message ≡ Opens exports actor class values → channel_said actor d ≡ Some (Some d.channel)
+opens_channel : (d : Delivered) (exports : List Segment) (actor : ℕ) (class : Class) (values : List Pair) → d.message ≡ Opens exports actor class values → channel_said actor d ≡ Some (Some d.channel)
 opens_channel d exports actor class values m = rw (m, itself actor) refl
 
 pub opens_value : (d : Delivered) (exports : List Segment) (actor : ℕ) (class : Class) (values : List Pair) (h : ℕ) → d.message ≡ Opens exports actor class values → value_applied actor h d ≡ value_among values h
 opens_value d exports actor class values h m = rw (m, itself actor) refl
 
-pub updates_keeps : (d : Delivered) (actor : ℕ) (class : Class) (values : List Pair) (a : ℕ) → d.message ≡ Updates actor class values → (removes a d ≡ false) × (class_opened a d ≡ None) × (channel_said a d ≡ None)
+updates_keeps : (d : Delivered) (actor : ℕ) (class : Class) (values : List Pair) (a : ℕ) → d.message ≡ Updates actor class values → (removes a d ≡ false) × (class_opened a d ≡ None) × (channel_said a d ≡ None)
 updates_keeps d actor class values a m = (rw m refl, rw m refl, rw m refl)
 
-pub updates_value : (d : Delivered) (actor : ℕ) (class : Class) (values : List Pair) (h : ℕ) → d.message ≡ Updates actor class values → value_applied actor h d ≡ value_among values h
+updates_value : (d : Delivered) (actor : ℕ) (class : Class) (values : List Pair) (h : ℕ) → d.message ≡ Updates actor class values → value_applied actor h d ≡ value_among values h
 updates_value d actor class values h m = rw (m, itself actor) refl
 
-pub sleeps_keeps : (d : Delivered) (actor a : ℕ) → d.message ≡ Closes actor true → (removes a d ≡ false) × (class_opened a d ≡ None)
+sleeps_keeps : (d : Delivered) (actor a : ℕ) → d.message ≡ Closes actor true → (removes a d ≡ false) × (class_opened a d ≡ None)
 sleeps_keeps d actor a m = (rw m (last (actor == a)), rw m refl)
   where
     last : (b : Bool) → (b && false) ≡ false
     last true = refl
     last false = refl
 
-pub sleeps_channel : (d : Delivered) (actor : ℕ) → d.message ≡ Closes actor true → channel_said actor d ≡ Some None
+sleeps_channel : (d : Delivered) (actor : ℕ) → d.message ≡ Closes actor true → channel_said actor d ≡ Some None
 sleeps_channel d actor m = rw (m, itself actor) refl
 
 pub closes_removes : (d : Delivered) (actor : ℕ) → d.message ≡ Closes actor false → removes actor d ≡ true
@@ -112,13 +112,13 @@ other_by d a (Updates actor class values) m o = record { keeps = rw m refl; clas
 other_by d a (Calls actor number call args) m o = record { keeps = rw m refl; class = rw m refl; channel = rw m refl; value = λ h. rw m refl }
 other_by d a (Gone actor) m o = record { keeps = rw (m, o) refl; class = rw m refl; channel = rw m refl; value = λ h. rw m refl }
 
-pub other_silent : (d : Delivered) (a : ℕ) → (actor_of d.message == a) ≡ false → Silent d a
+other_silent : (d : Delivered) (a : ℕ) → (actor_of d.message == a) ≡ false → Silent d a
 other_silent d a o = other_by d a d.message refl o
 
-pub call_silent : (d : Delivered) (actor number : ℕ) (call : Call) (args : List Arg) (a : ℕ) → d.message ≡ Calls actor number call args → Silent d a
+call_silent : (d : Delivered) (actor number : ℕ) (call : Call) (args : List Arg) (a : ℕ) → d.message ≡ Calls actor number call args → Silent d a
 call_silent d actor number call args a m = record { keeps = rw m refl; class = rw m refl; channel = rw m refl; value = λ h. rw m refl }
 
-pub silent_stays : (past later : Past) (d : Delivered) (a : ℕ) → Applied past later d → Silent d a → Stays past later a
+silent_stays : (past later : Past) (d : Delivered) (a : ℕ) → Applied past later d → Silent d a → Stays past later a
 silent_stays past later d a e s =
     let class = class_same past later d a e s.keeps s.class in
     record { class = class; channel = channel_same past later d a e s.keeps s.channel; value = λ h. value_same past later d a h e s.keeps (s.value h) class }

@@ -15,7 +15,7 @@ use Rattle.payload_laws.proofs.Pigeonhole.{pigeonhole}
 use Rattle.payload_laws.proofs.Learning.{found_guid}
 
 -- no guid stands twice
-abbrev pub AreDistinct : List Segment → Type 0
+abbrev AreDistinct : List Segment → Type 0
 AreDistinct [] = ⊤
 AreDistinct (s ∷ names) = (name_known names s.guid ≡ None) × AreDistinct names
 
@@ -23,7 +23,7 @@ with_distinct : (names : List Segment) (s : Segment) (o : Option Segment) → na
 with_distinct names s None e d = let more : names_with names s ≡ s ∷ names = rw e refl in rw more (e, d)
 with_distinct names s (Some t) e d = let stays : names_with names s ≡ names = rw e refl in rw stays d
 
-pub fold_distinct : (names exports : List Segment) → AreDistinct names → AreDistinct (fold names_with names exports)
+fold_distinct : (names exports : List Segment) → AreDistinct names → AreDistinct (fold names_with names exports)
 fold_distinct names [] d = d
 fold_distinct names (s ∷ exports) d = fold_distinct (names_with names s) exports (with_distinct names s (name_known names s.guid) refl d)
 
@@ -84,7 +84,7 @@ order i j a b = by_test (nat_lt i j) (nat_lt j i) refl refl
     by_test false false e f = grind (arith, nat_tests)
 
 -- names that are segments of the table, each once, are at most 1,024
-pub few_names : (entries : List Entry) (names : List Segment) → IsTable entries → AreAmong (segments_of entries) names → AreDistinct names → length names ≤ 1024
+few_names : (entries : List Entry) (names : List Segment) → IsTable entries → AreAmong (segments_of entries) names → AreDistinct names → length names ≤ 1024
 few_names entries names is among d =
     let at : (i : ℕ) → i < length names → NumberAt names i = λ i h. number_at entries names i is among h in
     pigeonhole (length names) 1024 (place_of names)

@@ -17,7 +17,7 @@ and_true true = refl
 and_true false = refl
 
 -- the first part of a reliable message
-pub made_begins : (ch n : ℕ) (message : Message) → is_reliable message ≡ true → (ch == 0) ≡ is_gone message → Begins message (made_bunch ch n message 0)
+made_begins : (ch n : ℕ) (message : Message) → is_reliable message ≡ true → (ch == 0) ≡ is_gone message → Begins message (made_bunch ch n message 0)
 made_begins ch n message r c = record {
   opens = and_true (is_opening message);
   closes = refl;
@@ -28,7 +28,7 @@ made_begins ch n message r c = record {
 }
 
 -- an unreliable message
-pub loose_begins : (ch : ℕ) (message : Message) → is_reliable message ≡ false → (ch == 0) ≡ false → Begins message (loose_bunch ch message)
+loose_begins : (ch : ℕ) (message : Message) → is_reliable message ≡ false → (ch == 0) ≡ false → Begins message (loose_bunch ch message)
 loose_begins ch (Opens exports actor class values) r c = absurd (cc)
 loose_begins ch (Closes actor sleeps) r c = absurd (cc)
 loose_begins ch (Updates actor class values) r c = record { opens = refl; closes = refl; sleeps = refl; exports = refl; reliable = refl; channel = c }

@@ -85,7 +85,7 @@ pub added : (segments names : List Segment) (s : Segment) (n : ℕ) → AreOne s
 added segments names s n one among at = added_by segments names s n (name_known names s.guid) refl one among at
 
 -- the outer is there, or there is none
-abbrev pub OuterKnown : List Segment → ℕ → Type 0
+abbrev OuterKnown : List Segment → ℕ → Type 0
 OuterKnown names outer = (outer ≡ 0) ⊎ ((t : Segment) × (name_known names outer ≡ Some t))
 
 outer_tested : (names : List Segment) (outer : ℕ) → OuterKnown names outer → (not (outer == 0) && is_none (name_known names outer)) ≡ false
@@ -101,7 +101,7 @@ full_not true n h = grind (arith, nat_tests)
 full_not false n h = refl
 
 -- a segment of the table under a known outer is learnt
-pub is_learnt : (segments names : List Segment) (s : Segment) (n : ℕ) → AreOne segments → AreAmong segments names → slice_get segments n ≡ Some s → OuterKnown names s.outer → length names < 65536 → learn_fault names s ≡ None
+is_learnt : (segments names : List Segment) (s : Segment) (n : ℕ) → AreOne segments → AreAmong segments names → slice_get segments n ≡ Some s → OuterKnown names s.outer → length names < 65536 → learn_fault names s ≡ None
 is_learnt segments names s n one among at outer few = by_known (name_known names s.guid) refl
   where
     by_known : (o : Option Segment) → name_known names s.guid ≡ o → learn_fault names s ≡ None

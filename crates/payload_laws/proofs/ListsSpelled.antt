@@ -96,7 +96,7 @@ pub record OctetsSpelled (n : ℕ) (bits : List Bool) (got : List ℕ × List Bo
   pub small : list_all (λ b. nat_lt b 256) got.0 ≡ true
   pub bits_are : bits ≡ octets_bits got.0 ++ got.1
 
-pub octets_spelled : (n : ℕ) (bits : List Bool) (got : List ℕ × List Bool) → octets_at n bits ≡ Ok got → OctetsSpelled n bits got
+octets_spelled : (n : ℕ) (bits : List Bool) (got : List ℕ × List Bool) → octets_at n bits ≡ Ok got → OctetsSpelled n bits got
 octets_spelled zero bits got read =
     let here : OctetsSpelled zero bits ([], bits) = record { count = refl; small = refl; bits_are = refl } in
     subst (λ (got : List ℕ × List Bool). OctetsSpelled zero bits got) (ok_same ([], bits) got read) here
@@ -149,7 +149,7 @@ as_arg kind bits got f g s =
     let here : ArgSpelled kind bits (Scalar s.value, s.rest) = record { fit = f s.value ∙ s.fit; bits_are = s.bits_are ∙ ap (λ (xs : List Bool). xs ++ s.rest) (sym (g s.value)) } in
     subst (λ (got : Arg × List Bool). ArgSpelled kind bits got) s.is here
 
-pub arg_spelled : (kind : Kind) (bits : List Bool) (got : Arg × List Bool) → is_type true kind ≡ true → arg_at kind bits ≡ Ok got → ArgSpelled kind bits got
+arg_spelled : (kind : Kind) (bits : List Bool) (got : Arg × List Bool) → is_type true kind ≡ true → arg_at kind bits ≡ Ok got → ArgSpelled kind bits got
 arg_spelled (Bytes most) bits got k read = octets_arg_spelled most bits got (leb-true most 2048 (and_parts (nat_le 1 most) (nat_le most 2048) k).1) read
 arg_spelled Kind.Bool bits got k read = as_arg Kind.Bool bits got (λ v. refl) (λ v. refl) (scalar_spelled Kind.Bool bits got k read)
 arg_spelled U8 bits got k read = as_arg U8 bits got (λ v. refl) (λ v. refl) (scalar_spelled U8 bits got k read)
@@ -191,7 +191,7 @@ four a b c d r = simp append_assoc
 odd_of : (g : ℕ) → (g % 2 == 1 && nat_le 3 g) ≡ true → (g % 2 ≡ 1) × (3 ≤ g)
 odd_of g h = (eqb-true (g % 2) 1 (and_parts _ _ h).0, leb-true 3 g (and_parts _ _ h).1)
 
-pub segment_spelled : (bits : List Bool) (got : Segment × List Bool) → segment_at bits ≡ Ok got → SegmentSpelled bits got
+segment_spelled : (bits : List Bool) (got : Segment × List Bool) → segment_at bits ≡ Ok got → SegmentSpelled bits got
 segment_spelled bits got read =
     let with_name : ℕ → ℕ → List ℕ → PayloadReading Segment = λ (guid outer : ℕ) (name : List ℕ). give (record { guid = guid; outer = outer; name = name }) in
     let with_size : ℕ → ℕ → ℕ → PayloadReading Segment = λ (guid outer n : ℕ). (field (octets_at n) is_segment_name >>= with_name guid outer) in
@@ -229,7 +229,7 @@ pub record SegmentsSpelled (names : List Segment) (count : ℕ) (bits : List Boo
   pub many : length got.0 ≡ count
   pub bits_are : bits ≡ flat_map segment_bits got.0 ++ got.1
 
-pub segments_spelled : (names : List Segment) (count : ℕ) (bits : List Bool) (got : List Segment × List Bool) → segments_at names count bits ≡ Ok got → SegmentsSpelled names count bits got
+segments_spelled : (names : List Segment) (count : ℕ) (bits : List Bool) (got : List Segment × List Bool) → segments_at names count bits ≡ Ok got → SegmentsSpelled names count bits got
 segments_spelled names zero bits got read =
     let here : SegmentsSpelled names zero bits ([], bits) = record { learnt = tt; many = refl; bits_are = refl } in
     subst (λ (got : List Segment × List Bool). SegmentsSpelled names zero bits got) (ok_same ([], bits) got read) here

@@ -60,14 +60,14 @@ unless_of : (rule : Bool) (cause : Cause) (bits : List Bool) (n : ℕ) (rest : L
 unless_of rule cause bits n rest read = need_of rule (Some cause) bits n rest read
 
 -- what an end read, and that nothing was left
-abbrev pub Got : (Message → Bool) → Side → Table → Past → Bunch → List Bool → Message × List Bool → Type 0
+abbrev Got : (Message → Bool) → Side → Table → Past → Bunch → List Bool → Message × List Bool → Type 0
 Got test side table past first bits got = (got.1 ≡ []) × Spells side table past first bits got.0 × (test got.0 ≡ true)
 
 got_is : (test : Message → Bool) (side : Side) (table : Table) (past : Past) (first : Bunch) (bits : List Bool) (message : Message) (got : Message × List Bool) → (message, []) ≡ got → test message ≡ true → Spells side table past first bits message → Got test side table past first bits got
 got_is test side table past first bits message got e t s = subst (λ (got : Message × List Bool). Got test side table past first bits got) e (refl, s, t)
 
 -- neither an open nor a close nor a Gone
-abbrev pub is_plain : Message → Bool
+abbrev is_plain : Message → Bool
 is_plain (Opens exports actor class values) = false
 is_plain (Closes actor sleeps) = false
 is_plain (Updates actor class values) = true
@@ -75,7 +75,7 @@ is_plain (Calls actor number call args) = true
 is_plain (Gone actor) = false
 
 -- which message a client reads, by the channel and two flags
-abbrev pub shape : (gone closes opens : Bool) → Message → Bool
+abbrev shape : (gone closes opens : Bool) → Message → Bool
 shape gone closes opens message = cond gone (is_gone message) (cond closes (is_closing message) (cond opens (is_opening message) (is_plain message)))
 
 -- and which message either end does

@@ -46,7 +46,7 @@ last_least outer [] l are = l
 last_least outer (s ∷ path) l are = last_least s.guid path are.0.least are.1
 
 -- the names give the path of a class's guid
-pub path_named : (names path : List Segment) → is_chain 0 path ≡ true → AreSegments path → KnowsAll names path → 1 ≤ length path → length path ≤ 8 → path_up names 8 (guid_of path) ≡ Some (path_names path)
+path_named : (names path : List Segment) → is_chain 0 path ≡ true → AreSegments path → KnowsAll names path → 1 ≤ length path → length path ≤ 8 → path_up names 8 (guid_of path) ≡ Some (path_names path)
 path_named names [] chain are known some few = absurd (omega (arith, some))
 path_named names (s ∷ path) chain are known some few =
     let all : List Segment = s ∷ path in

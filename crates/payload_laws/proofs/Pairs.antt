@@ -40,7 +40,7 @@ handle_on class more p pairs rest limits f more_read =
     (then_read (pairs_at class more p.handle) (λ pairs. give (record { handle = p.handle; value = p.value } ∷ pairs)) back pairs rest (Ok (p ∷ pairs, rest)) more_read refl)
 
 -- the pairs above a handle, of which there are at most so many
-pub pairs_read : (class : Class) (more last : ℕ) (pairs : List Pair) (rest : List Bool) → HasLimits class → handle_count class ≤ more + last → AreValues class last pairs
+pairs_read : (class : Class) (more last : ℕ) (pairs : List Pair) (rest : List Bool) → HasLimits class → handle_count class ≤ more + last → AreValues class last pairs
     → pairs_at class more last (list_bits class pairs ++ rest) ≡ Ok (pairs, rest)
 pairs_read class zero last [] rest limits m v =
     then_read (field number_at (λ h. h == 0)) (λ _. give []) (packed_bits 0 ++ rest) 0 rest (Ok ([], rest))

@@ -46,13 +46,13 @@ none_taken : (A : Type 0) (b : ℕ) → ◌≡◌ {A = List A} (take b []) []
 none_taken A zero = refl
 none_taken A (suc b) = refl
 
-pub take_sum : {A : Type 0} (a b : ℕ) (xs : List A) → take a xs ++ take b (drop a xs) ≡ take (a + b) xs
+take_sum : {A : Type 0} (a b : ℕ) (xs : List A) → take a xs ++ take b (drop a xs) ≡ take (a + b) xs
 take_sum zero b xs = let e : 0 + b ≡ b = omega arith in rw e refl
 take_sum {A = A} (suc a) b [] = let e : suc a + b ≡ suc (a + b) = omega arith in rw e (none_taken A b)
 take_sum (suc a) b (x ∷ xs) = let e : suc a + b ≡ suc (a + b) = omega arith in rw e (ap (λ ys. x ∷ ys) (take_sum a b xs))
 
 -- one piece more
-pub piece_more : (bits : List Bool) (i : ℕ) → take (7000 * i) bits ++ piece_at bits i ≡ take (7000 * suc i) bits
+piece_more : (bits : List Bool) (i : ℕ) → take (7000 * i) bits ++ piece_at bits i ≡ take (7000 * suc i) bits
 piece_more bits i = let e : 7000 * suc i ≡ 7000 * i + 7000 = omega arith in rw e (take_sum (7000 * i) 7000 bits)
 
 pieces_from : (bits : List Bool) (i k : ℕ) → flat_map (piece_at bits) (range_with_len i k) ≡ take (7000 * k) (drop (7000 * i) bits)
@@ -133,7 +133,7 @@ goes_on ch n message (suc i) h = ends_as (made_bunch ch n message (suc i)) Middl
 
 -- ---- what is kept
 
-pub kept_bits : (ch first : ℕ) (message : Message) (i : ℕ) → flat_map (λ (b : Bunch). b.payload) (reverse (kept_parts ch first message i)) ≡ take (7000 * i) (message_bits message)
+kept_bits : (ch first : ℕ) (message : Message) (i : ℕ) → flat_map (λ (b : Bunch). b.payload) (reverse (kept_parts ch first message i)) ≡ take (7000 * i) (message_bits message)
 kept_bits ch first message zero = refl
 kept_bits ch first message (suc i) =
     let b : Bunch = made_bunch ch (first + i) message i in

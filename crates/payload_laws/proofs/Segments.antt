@@ -28,12 +28,12 @@ chars_small [] h = refl
 chars_small (c ∷ cs) h = and_from (nat_lt c 256) (list_all (λ b. nat_lt b 256) cs) (lt-ltb c 256 (char_small c (and_parts _ _ h).0)) (chars_small cs (and_parts _ _ h).1)
 
 -- the characters of a name are bytes
-pub name_bytes : (name : List ℕ) → is_segment_name name ≡ true → list_all (λ b. nat_lt b 256) name ≡ true
+name_bytes : (name : List ℕ) → is_segment_name name ≡ true → list_all (λ b. nat_lt b 256) name ≡ true
 name_bytes [] h = refl
 name_bytes (c ∷ cs) h = and_from (nat_lt c 256) (list_all (λ b. nat_lt b 256) cs) (lt-ltb c 256 (letter_small c (and_parts _ _ h).0)) (chars_small cs (and_parts _ _ h).1)
 
 -- a name isn't empty
-pub name_some : (name : List ℕ) → is_segment_name name ≡ true → 1 ≤ length name
+name_some : (name : List ℕ) → is_segment_name name ≡ true → 1 ≤ length name
 name_some [] h = absurd (cc)
 name_some (c ∷ cs) h = omega arith
 
@@ -45,7 +45,7 @@ odd_least g o l = and_from (g % 2 == 1) (nat_le 3 g) (eq-eqb (g % 2) 1 o) (le-le
 four : (a b c d r : List Bool) → (a ++ b ++ c ++ d) ++ r ≡ a ++ (b ++ (c ++ (d ++ r)))
 four a b c d r = simp append_assoc
 
-pub segment_read : (s : Segment) (rest : List Bool) → IsSegment s → segment_at (segment_bits s ++ rest) ≡ Ok (s, rest)
+segment_read : (s : Segment) (rest : List Bool) → IsSegment s → segment_at (segment_bits s ++ rest) ≡ Ok (s, rest)
 segment_read s rest is =
     let some : 1 ≤ length s.name = name_some s.name is.name in
     let short : length s.name ≤ 31 = is.short in
@@ -65,7 +65,7 @@ segment_read s rest is =
     (must_read (octets_at (length s.name)) is_segment_name _ at_name s.name rest (octets_read s.name rest (name_bytes s.name is.name)) is.name) refl)))
 
 -- nothing stands against the value
-pub may_read : {A : Type 0} (o : Option Cause) (value : A) (bits : List Bool) → o ≡ None → may_fail o value bits ≡ Ok (value, bits)
+may_read : {A : Type 0} (o : Option Cause) (value : A) (bits : List Bool) → o ≡ None → may_fail o value bits ≡ Ok (value, bits)
 may_read o value bits e = rw e refl
 
 pub segments_read : (names exports : List Segment) (rest : List Bool) → AreLearnt names exports → segments_at names (length exports) (flat_map segment_bits exports ++ rest) ≡ Ok (exports, rest)

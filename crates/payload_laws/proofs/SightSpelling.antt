@@ -24,7 +24,7 @@ lower_fits : (class : Class) (last h : ℕ) (values : List Pair) → last ≤ h 
 lower_fits class last h [] l v = tt
 lower_fits class last h (p ∷ pairs) l v = let above = v.0 in (omega (arith, l, above), v.1, v.2, v.3)
 
-pub filter_fits : (class : Class) (last : ℕ) (test : Pair → Bool) (values : List Pair) → AreValues class last values → AreValues class last (filter test values)
+filter_fits : (class : Class) (last : ℕ) (test : Pair → Bool) (values : List Pair) → AreValues class last values → AreValues class last (filter test values)
 filter_fits class last test [] v = tt
 filter_fits class last test (p ∷ pairs) v = by_test (test p) (filter_fits class p.handle test pairs v.3)
   where
@@ -75,7 +75,7 @@ spawns_here table edits k class x y false e there most later =
     below : (k n : ℕ) → k ≤ n + 1 → (2 * k == 2 * (n + 1)) ≡ false → k ≤ n
     below k n m e = grind (arith, nat_tests)
 
-pub spawns : (table : Table) (edits : Edits) (k : ℕ) → AreAccepted table edits → 1 ≤ k → k ≤ spawn_count edits → Spawns table edits (2 * k)
+spawns : (table : Table) (edits : Edits) (k : ℕ) → AreAccepted table edits → 1 ≤ k → k ≤ spawn_count edits → Spawns table edits (2 * k)
 spawns table [] k ok one most = absurd (omega (arith, one, most))
 spawns table (Spawn class x y ∷ edits) k ok one most =
     spawns_here table edits k class x y (2 * k == 2 * (spawn_count edits + 1)) refl (ltb-true class (length table) (taken table edits (Spawn class x y) ok.0).range) (omega (arith, most, count_more class x y edits)) (λ less. spawns table edits k ok.2 one less)

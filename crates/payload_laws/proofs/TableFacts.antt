@@ -64,7 +64,7 @@ chars_same (c ∷ cs) h = and_from (Names.is_name_char c) (list_all Names.is_nam
     one c h = grind (arith, nat_tests)
 
 -- a name of a table is a name to the reader
-pub name_same : (name : List ℕ) → Words.is_name name ≡ true → (Names.is_segment_name name ≡ true) × (length name ≤ 31)
+name_same : (name : List ℕ) → Words.is_name name ≡ true → (Names.is_segment_name name ≡ true) × (length name ≤ 31)
 name_same [] h = absurd (cc)
 name_same (c ∷ cs) h =
     let few : length cs < 31 = ltb-true (length cs) 31 (and_parts _ _ h).1 in (
@@ -76,7 +76,7 @@ name_same (c ∷ cs) h =
     first c h = grind (arith, nat_tests)
 
 -- each has one of the first 1,024 guids
-abbrev pub AreNumbered : List Segment → Type 0
+abbrev AreNumbered : List Segment → Type 0
 AreNumbered [] = ⊤
 AreNumbered (s ∷ segments) = ((i : ℕ) × (i < 1024) × (s.guid ≡ 2 * i + 3)) × AreNumbered segments
 

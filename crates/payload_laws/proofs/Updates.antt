@@ -38,7 +38,7 @@ longest_by test most xs false e shorter = record {
     at_least zero h e shorter = absurd (cc)
     at_least (suc most) h e shorter = shorter.some h (omega arith)
 
-pub longest : {A : Type 0} (test : List A → Bool) (most : ℕ) (xs : List A) → IsLongest test most xs
+longest : {A : Type 0} (test : List A → Bool) (most : ℕ) (xs : List A) → IsLongest test most xs
 longest test zero xs = record { count = 0; prefix = refl; passes = λ h. h; some = λ h k. k }
 longest test (suc most) xs = longest_by test most xs (test (take (suc most) xs)) refl (longest test most xs)
 
@@ -51,7 +51,7 @@ update_most seen due =
     leb-true _ 6000 (of.passes (le-leb _ 6000 (omega (arith, message_length (update_message seen [])))))
 
 -- a front of values of ascending handles is such values
-pub front_fits : (class : Class) (last count : ℕ) (values : List Pair) → AreValues class last values → AreValues class last (take count values)
+front_fits : (class : Class) (last count : ℕ) (values : List Pair) → AreValues class last values → AreValues class last (take count values)
 front_fits class last zero values v = tt
 front_fits class last (suc count) [] v = tt
 front_fits class last (suc count) (p ∷ pairs) v = (v.0, v.1, v.2, front_fits class p.handle count pairs v.3)
