@@ -45,6 +45,7 @@ channel_there past later d a o e r c = ap (λ (x : Option (Option ℕ)). unwrap_
 channel_same : (past later : Past) (d : Delivered) (a : ℕ) → Applied past later d → removes a d ≡ false → channel_said a d ≡ None → copy_channel later a ≡ copy_channel past a
 channel_same past later d a e r c = ap (λ (x : Option (Option ℕ)). unwrap_or x None) (ap (newest_of (channel_said a)) (since_more past later d a e r) ∙ newest_later (channel_said a) d (since_removed past a) c)
 
+-- a copy that is removed has no channel
 pub channel_none : (past later : Past) (d : Delivered) (a : ℕ) → Applied past later d → removes a d ≡ true → copy_channel later a ≡ None
 channel_none past later d a e r = ap (λ (x : Option (Option ℕ)). unwrap_or x None) (ap (newest_of (channel_said a)) (since_none past later d a e r))
 
@@ -64,6 +65,7 @@ value_same past later d a h e r c k =
 itself : (a : ℕ) → (a == a) ≡ true
 itself a = eq-eqb a a refl
 
+-- an open removes no copy
 pub opens_keeps : (d : Delivered) (exports : List Segment) (actor : ℕ) (class : Class) (values : List Pair) (a : ℕ) → d.message ≡ Opens exports actor class values → removes a d ≡ false
 opens_keeps d exports actor class values a m = rw m refl
 
@@ -73,6 +75,7 @@ opens_class d exports actor class values m = rw (m, itself actor) refl
 opens_channel : (d : Delivered) (exports : List Segment) (actor : ℕ) (class : Class) (values : List Pair) → d.message ≡ Opens exports actor class values → channel_said actor d ≡ Some (Some d.channel)
 opens_channel d exports actor class values m = rw (m, itself actor) refl
 
+-- an open applies its own values
 pub opens_value : (d : Delivered) (exports : List Segment) (actor : ℕ) (class : Class) (values : List Pair) (h : ℕ) → d.message ≡ Opens exports actor class values → value_applied actor h d ≡ value_among values h
 opens_value d exports actor class values h m = rw (m, itself actor) refl
 
@@ -92,9 +95,11 @@ sleeps_keeps d actor a m = (rw m (last (actor == a)), rw m refl)
 sleeps_channel : (d : Delivered) (actor : ℕ) → d.message ≡ Closes actor true → channel_said actor d ≡ Some None
 sleeps_channel d actor m = rw (m, itself actor) refl
 
+-- a plain close removes its actor's copy
 pub closes_removes : (d : Delivered) (actor : ℕ) → d.message ≡ Closes actor false → removes actor d ≡ true
 closes_removes d actor m = rw (m, itself actor) refl
 
+-- a Gone removes its actor's copy
 pub gone_removes : (d : Delivered) (actor : ℕ) → d.message ≡ Gone actor → removes actor d ≡ true
 gone_removes d actor m = rw (m, itself actor) refl
 
@@ -125,54 +130,70 @@ silent_stays past later d a e s =
 
 -- ---- by the message
 
+-- after an open the copy has its class
 pub open_class : (past later : Past) (d : Delivered) (exports : List Segment) (actor : ℕ) (class : Class) (values : List Pair) → Applied past later d → d.message ≡ Opens exports actor class values → copy_class later actor ≡ Some class
 open_class past later d exports actor class values e m = class_there past later d actor class e (opens_keeps d exports actor class values actor m) (opens_class d exports actor class values m)
 
+-- after an open the copy is on its channel
 pub open_channel : (past later : Past) (d : Delivered) (exports : List Segment) (actor : ℕ) (class : Class) (values : List Pair) → Applied past later d → d.message ≡ Opens exports actor class values → copy_channel later actor ≡ Some d.channel
 open_channel past later d exports actor class values e m = channel_there past later d actor (Some d.channel) e (opens_keeps d exports actor class values actor m) (opens_channel d exports actor class values m)
 
+-- after an open the copy has its values
 pub open_value : (past later : Past) (d : Delivered) (exports : List Segment) (actor : ℕ) (class : Class) (values : List Pair) (h : ℕ) (v : ℤ) → Applied past later d → d.message ≡ Opens exports actor class values → value_among values h ≡ Some v → copy_value later actor h ≡ v
 open_value past later d exports actor class values h v e m k = value_there past later d actor h v e (opens_keeps d exports actor class values actor m) (opens_value d exports actor class values h m ∙ k)
 
+-- what an open leaves out stays in a copy of its class
 pub open_kept : (past later : Past) (d : Delivered) (exports : List Segment) (actor : ℕ) (class : Class) (values : List Pair) (h : ℕ) → Applied past later d → d.message ≡ Opens exports actor class values → value_among values h ≡ None → copy_class past actor ≡ Some class → copy_value later actor h ≡ copy_value past actor h
 open_kept past later d exports actor class values h e m k c =
     value_same past later d actor h e (opens_keeps d exports actor class values actor m) (opens_value d exports actor class values h m ∙ k) (open_class past later d exports actor class values e m ∙ sym c)
 
+-- an update leaves the copy's class
 pub update_class : (past later : Past) (d : Delivered) (actor : ℕ) (class : Class) (values : List Pair) → Applied past later d → d.message ≡ Updates actor class values → copy_class later actor ≡ copy_class past actor
 update_class past later d actor class values e m = let k = updates_keeps d actor class values actor m in class_same past later d actor e k.0 k.1
 
+-- an update leaves the copy's channel
 pub update_channel : (past later : Past) (d : Delivered) (actor : ℕ) (class : Class) (values : List Pair) → Applied past later d → d.message ≡ Updates actor class values → copy_channel later actor ≡ copy_channel past actor
 update_channel past later d actor class values e m = let k = updates_keeps d actor class values actor m in channel_same past later d actor e k.0 k.2
 
+-- after an update the copy has its values
 pub update_value : (past later : Past) (d : Delivered) (actor : ℕ) (class : Class) (values : List Pair) (h : ℕ) (v : ℤ) → Applied past later d → d.message ≡ Updates actor class values → value_among values h ≡ Some v → copy_value later actor h ≡ v
 update_value past later d actor class values h v e m k = let s = updates_keeps d actor class values actor m in value_there past later d actor h v e s.0 (updates_value d actor class values h m ∙ k)
 
+-- what an update leaves out stays
 pub update_kept : (past later : Past) (d : Delivered) (actor : ℕ) (class : Class) (values : List Pair) (h : ℕ) → Applied past later d → d.message ≡ Updates actor class values → value_among values h ≡ None → copy_value later actor h ≡ copy_value past actor h
 update_kept past later d actor class values h e m k = let s = updates_keeps d actor class values actor m in value_same past later d actor h e s.0 (updates_value d actor class values h m ∙ k) (update_class past later d actor class values e m)
 
+-- after a plain close there is no copy
 pub close_class : (past later : Past) (d : Delivered) (actor : ℕ) → Applied past later d → d.message ≡ Closes actor false → copy_class later actor ≡ None
 close_class past later d actor e m = class_none past later d actor e (closes_removes d actor m)
 
+-- after a Gone there is no copy
 pub gone_class : (past later : Past) (d : Delivered) (actor : ℕ) → Applied past later d → d.message ≡ Gone actor → copy_class later actor ≡ None
 gone_class past later d actor e m = class_none past later d actor e (gone_removes d actor m)
 
+-- a dormant close leaves the copy's class
 pub sleep_class : (past later : Past) (d : Delivered) (actor : ℕ) → Applied past later d → d.message ≡ Closes actor true → copy_class later actor ≡ copy_class past actor
 sleep_class past later d actor e m = let k = sleeps_keeps d actor actor m in class_same past later d actor e k.0 k.1
 
+-- after a dormant close the copy has no channel
 pub sleep_channel : (past later : Past) (d : Delivered) (actor : ℕ) → Applied past later d → d.message ≡ Closes actor true → copy_channel later actor ≡ None
 sleep_channel past later d actor e m = let k = sleeps_keeps d actor actor m in channel_there past later d actor None e k.0 (sleeps_channel d actor m)
 
+-- a dormant close leaves each value
 pub sleep_value : (past later : Past) (d : Delivered) (actor h : ℕ) → Applied past later d → d.message ≡ Closes actor true → copy_value later actor h ≡ copy_value past actor h
 sleep_value past later d actor h e m = let k = sleeps_keeps d actor actor m in value_same past later d actor h e k.0 (rw m refl) (sleep_class past later d actor e m)
 
+-- a payload leaves the copies of other actors
 pub others_stay : (past later : Past) (d : Delivered) (a : ℕ) → Applied past later d → (actor_of d.message == a) ≡ false → Stays past later a
 others_stay past later d a e o = silent_stays past later d a e (other_silent d a o)
 
+-- a call leaves every copy
 pub calls_stay : (past later : Past) (d : Delivered) (actor number : ℕ) (call : Call) (args : List Arg) (a : ℕ) → Applied past later d → d.message ≡ Calls actor number call args → Stays past later a
 calls_stay past later d actor number call args a e m = silent_stays past later d a e (call_silent d actor number call args a m)
 
 -- ---- names
 
+-- the names are those before, and then those that the payload exports
 pub names_after : (past later : Past) (d : Delivered) → Applied past later d → names_of later ≡ fold names_with (names_of past) (names_in d)
 names_after past later d e =
     let before : List Segment = flat_map names_in (reverse (delivered_of past)) in

@@ -112,9 +112,11 @@ ends_one : (end : End) (past : Past) (kept : List Bunch) (b : Bunch) (first : Bu
     → first_of kept b ≡ first → joined_bits kept b ≡ bits → payload_at end past first bits ≡ Ok (message, []) → bunch_result end past kept b ≡ Ok (Some (delivery_of end past first message))
 ends_one end past kept b first bits message l f e r s j p = rw (l, f, e, r, s, j) (rw (p, payload_result) refl)
 
+-- a bunch that ends no payload is kept, and the next one is looked at
 pub then_more : (end : End) (past : Past) (kept : List Bunch) (b : Bunch) (bunches : List Bunch) → bunch_result end past kept b ≡ Ok None → bunches_result end past kept (b ∷ bunches) ≡ bunches_result end past (b ∷ kept) bunches
 then_more end past kept b bunches e = rw (e, bunches_result) refl
 
+-- a bunch that ends a payload hands it on, and the next one begins anew
 pub then_ends : (end : End) (past : Past) (kept : List Bunch) (b : Bunch) (bunches : List Bunch) (d : Delivered) → bunch_result end past kept b ≡ Ok (Some d) → bunches_result end past kept (b ∷ bunches) ≡ bunches_result end (with_handed d past) [] bunches
 then_ends end past kept b bunches d e = rw (e, bunches_result) refl
 

@@ -35,6 +35,7 @@ pub record Known (names : List Segment) (s t : Segment) : Type 0 where
   pub agree : is_same_segment s t ≡ true
   pub is : t ≡ s
 
+-- what is known under a segment's guid is that segment
 pub known_is : (segments names : List Segment) (s t : Segment) (n : ℕ) → AreOne segments → AreAmong segments names → slice_get segments n ≡ Some s → name_known names s.guid ≡ Some t → Known names s t
 known_is segments names s t n one among at h =
     let k = among s.guid t h in
@@ -81,6 +82,7 @@ added_by segments names s n None e one among at =
         let none : ◌≡◌ {A = Option Segment} None (Some t) = sym e ∙ ap (name_known names) same ∙ h in
         absurd (cc)
 
+-- one more segment of the table is added without a clash
 pub added : (segments names : List Segment) (s : Segment) (n : ℕ) → AreOne segments → AreAmong segments names → slice_get segments n ≡ Some s → Added segments names s
 added segments names s n one among at = added_by segments names s n (name_known names s.guid) refl one among at
 
@@ -116,6 +118,7 @@ others_kept : (segments names : List Segment) (s : Segment) (test : Segment → 
 others_kept segments names s test [] a k = tt
 others_kept segments names s test (t ∷ path) a k = (λ e. a.keeps t (k.0 e), others_kept segments names s test path a k.1)
 
+-- what is exported of a path is learnt, and then the whole path is known
 pub record Learnt (segments names : List Segment) (test : Segment → Bool) (path : List Segment) : Type 0 where
   pub learnt : AreLearnt names (filter test path)
   pub among : AreAmong segments (fold names_with names (filter test path))
@@ -147,6 +150,7 @@ learn_step segments names test s path false e n one among at is outer few others
       all = subst (λ (xs : List Segment). KnowsAll (fold names_with names xs) (s ∷ path)) (sym out) (later.keeps s (others.0 e), later.all);
     }
 
+-- each segment of a path is exported or known, so the path is learnt
 pub learn_path : (segments names : List Segment) (test : Segment → Bool) (outer : ℕ) (path : List Segment) → AreOne segments → AreAmong segments names → StandAmong segments path → AreSegments path → is_chain outer path ≡ true → OuterKnown names outer → length names + length path ≤ 65536 → KnowsOthers names test path
     → Learnt segments names test path
 learn_path segments names test outer [] one among stand are chain known few others = record { learnt = tt; among = among; keeps = λ t h. h; all = tt }

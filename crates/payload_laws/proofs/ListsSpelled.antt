@@ -57,6 +57,7 @@ pairs_where class more last h bits rest got true z limits r e later read = no_pa
 pairs_where class more last h bits rest got false z limits r e later read =
     pairs_on class more last h bits rest got limits (ltb-true last h (and_parts _ _ r).0) (leb-true h (handle_count class) (and_parts _ _ r).1) e later read
 
+-- what is read as pairs was spelled so
 pub pairs_spelled : (class : Class) (more last : ℕ) (bits : List Bool) (got : List Pair × List Bool) → HasLimits class → pairs_at class more last bits ≡ Ok got → PairsSpelled class last bits got
 pairs_spelled class zero last bits got limits read =
     let a = then_of (field number_at (λ h. h == 0)) (λ _. give []) bits got read in
@@ -70,6 +71,7 @@ pairs_spelled class (suc more) last bits got limits read =
     let s = packed_spelled None a.value bits a.rest kept.1 in
     pairs_where class more last a.value bits a.rest got (a.value == 0) refl limits kept.0 s.1 (λ bits got read. pairs_spelled class more a.value bits got limits read) a.second
 
+-- what is read as an update's pairs was spelled so, and there is one
 pub some_pairs_spelled : (class : Class) (bits : List Bool) (got : List Pair × List Bool) → HasLimits class → some_values_at class bits ≡ Ok got → PairsSpelled class 0 bits got × (0 < length got.0)
 some_pairs_spelled class bits got limits read =
     let rule : ℕ → Bool = λ (h : ℕ). (nat_lt 0 h && nat_le h (handle_count class)) in
@@ -91,6 +93,7 @@ some_pairs_spelled class bits got limits read =
 
 -- ---- arguments
 
+-- the bytes that are read were spelled in these bits
 pub record OctetsSpelled (n : ℕ) (bits : List Bool) (got : List ℕ × List Bool) : Type 0 where
   pub count : length got.0 ≡ n
   pub small : list_all (λ b. nat_lt b 256) got.0 ≡ true
@@ -112,6 +115,7 @@ octets_spelled (suc n) bits got read =
     } in
     subst (λ (got : List ℕ × List Bool). OctetsSpelled (suc n) bits got) (ok_same (a.value ∷ b.value, b.rest) got b.second) here
 
+-- the argument that is read was spelled in these bits
 pub record ArgSpelled (kind : Kind) (bits : List Bool) (got : Arg × List Bool) : Type 0 where
   pub fit : arg_fits kind got.0 ≡ true
   pub bits_are : bits ≡ arg_bits kind got.0 ++ got.1
@@ -160,10 +164,12 @@ arg_spelled Packed bits got k read = as_arg Packed bits got (λ v. refl) (λ v. 
 arg_spelled Guid bits got k read = as_arg Guid bits got (λ v. refl) (λ v. refl) (scalar_spelled Guid bits got k read)
 arg_spelled (Enum count) bits got k read = as_arg (Enum count) bits got (λ v. refl) (λ v. refl) (scalar_spelled (Enum count) bits got k read)
 
+-- the arguments that are read were spelled in these bits
 pub record ArgsSpelled (kinds : List Kind) (bits : List Bool) (got : List Arg × List Bool) : Type 0 where
   pub fit : args_fit kinds got.0 ≡ true
   pub bits_are : bits ≡ args_bits kinds got.0 ++ got.1
 
+-- what is read as arguments was spelled so
 pub args_spelled : (kinds : List Kind) (bits : List Bool) (got : List Arg × List Bool) → list_all (is_type true) kinds ≡ true → args_at kinds bits ≡ Ok got → ArgsSpelled kinds bits got
 args_spelled [] bits got k read =
     let here : ArgsSpelled [] bits ([], bits) = record { fit = refl; bits_are = refl } in
@@ -181,6 +187,7 @@ args_spelled (kind ∷ kinds) bits got k read =
 
 -- ---- segments
 
+-- the segment that is read was spelled in these bits, and can be exported
 pub record SegmentSpelled (bits : List Bool) (got : Segment × List Bool) : Type 0 where
   pub is : IsSegment got.0
   pub bits_are : bits ≡ segment_bits got.0 ++ got.1
@@ -224,6 +231,7 @@ may_of : {A : Type 0} (o : Option Cause) (value : A) (bits : List Bool) (got : A
 may_of None value bits got h = (refl, ok_same (value, bits) got h)
 may_of (Some cause) value bits got h = absurd (cc)
 
+-- the segments that are read were spelled in these bits, and each was learnt
 pub record SegmentsSpelled (names : List Segment) (count : ℕ) (bits : List Bool) (got : List Segment × List Bool) : Type 0 where
   pub learnt : AreLearnt names got.0
   pub many : length got.0 ≡ count
@@ -250,6 +258,7 @@ segments_spelled names (suc count) bits got read =
     } in
     subst (λ (got : List Segment × List Bool). SegmentsSpelled names (suc count) bits got) (ok_same (a.value ∷ c.value, c.rest) got c.second) here
 
+-- the exports that are read were spelled in these bits, where the flag says that there are some
 pub record ExportsSpelled (flag : Bool) (names : List Segment) (bits : List Bool) (got : List Segment × List Bool) : Type 0 where
   pub learnt : AreLearnt names got.0
   pub few : length got.0 < 2 ^ 32
@@ -267,6 +276,7 @@ exports_by names count bits rest (x ∷ xs, after) few one e s =
       bits_are = e ∙ ap (λ (n : ℕ). packed_bits n ++ rest) (sym many) ∙ ap (λ (ys : List Bool). packed_bits (suc (length xs)) ++ ys) s.bits_are ∙ sym (append_assoc (packed_bits (suc (length xs))) (flat_map segment_bits (x ∷ xs)) after);
     }
 
+-- what is read as exports was spelled so
 pub exports_spelled : (flag : Bool) (names : List Segment) (bits : List Bool) (got : List Segment × List Bool) → exports_at flag names bits ≡ Ok got → ExportsSpelled flag names bits got
 exports_spelled false names bits got read =
     let here : ExportsSpelled false names bits ([], bits) = record { learnt = tt; few = omega arith; some = refl; bits_are = refl } in

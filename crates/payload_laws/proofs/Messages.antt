@@ -54,6 +54,7 @@ is_not b e = rw e refl
 three : (a b c d : List Bool) → a ++ b ++ c ++ d ≡ a ++ (b ++ (c ++ d))
 three a b c d = simp append_assoc
 
+-- an open is read as it was spelled
 pub open_read : (table : Table) (past : Past) (first : Bunch) (exports : List Segment) (actor : ℕ) (class : Class) (values : List Pair) → first.exports ≡ are_some exports → OpenPasses table past first.channel exports actor (class_guid class) class values
     → open_at table past first (message_bits (Opens exports actor class values)) ≡ Ok (Opens exports actor class values, [])
 open_read table past first exports actor class values flag h =
@@ -107,6 +108,7 @@ pub number_is : (class : Class) (number : ℕ) (call : Call) → HasLimits class
 number_is class zero call limits e = omega arith
 number_is class (suc n) call limits e = let within = slice_get_within class.calls n call e in let few = limits.call_count in omega (arith, within, few)
 
+-- a call's kinds may stand among arguments
 pub call_types : (call : Call) → is_call call ≡ true → list_all (is_type true) call.args ≡ true
 call_types call h = (and_parts _ _ (and_parts _ _ (and_parts _ _ h).0).0).1
 
@@ -157,6 +159,7 @@ server_call_read past first actor number call args c r h =
 
 -- ---- an update
 
+-- an update is read as it was spelled
 pub update_read : (past : Past) (first : Bunch) (actor : ℕ) (class : Class) (values : List Pair) → UpdatePasses past first.channel actor class values → update_at past first (list_bits class values) ≡ Ok (Updates actor class values, [])
 update_read past first actor class values h =
     let answer : Answer (Option Cause) Message = Ok (Updates actor class values, []) in
@@ -169,6 +172,7 @@ update_read past first actor class values h =
 
 -- ---- a Gone
 
+-- a Gone is read as it was spelled
 pub gone_read : (past : Past) (actor : ℕ) → IsActor actor → is_sleeping_copy past actor ≡ true → gone_at past (message_bits (Gone actor)) ≡ Ok (Gone actor, [])
 gone_read past actor is asleep =
     let answer : Answer (Option Cause) Message = Ok (Gone actor, []) in

@@ -84,6 +84,7 @@ first_found (x ∷ before) e after h =
 
 -- ---- an open of a class of the table
 
+-- a list of which each item is a segment of the table stands among them
 pub stand_of : (whole xs : List Segment) → ((n : ℕ) (s : Segment) → slice_get xs n ≡ Some s → (m : ℕ) × (slice_get whole m ≡ Some s)) → StandAmong whole xs
 stand_of whole [] h = tt
 stand_of whole (s ∷ xs) h = (h 0 s refl, stand_of whole xs (λ n t e. h (suc n) t e))
@@ -96,6 +97,7 @@ stand_right : (whole xs ys : List Segment) → StandAmong whole (xs ++ ys) → S
 stand_right whole [] ys h = h
 stand_right whole (x ∷ xs) ys h = stand_right whole xs ys h.1
 
+-- a class's path stands among the table's segments
 pub stand_class : (whole : List Segment) (before : List Entry) (e : Entry) (after : List Entry) → StandAmong whole (segments_of (before ++ e ∷ after)) → StandAmong whole e.class.path
 stand_class whole [] e after h = stand_left whole e.class.path (segments_of after) h
 stand_class whole (x ∷ before) e after h = stand_class whole before e after (stand_right whole x.class.path (segments_of (before ++ e ∷ after)) h)
@@ -118,6 +120,7 @@ class_is_named entries before e after names is split known =
     let found : find (λ (class : Class). same_names class.path (path_names e.class.path)) (table_of entries) ≡ Some e.class = ap (λ (xs : List Entry). find (λ (class : Class). same_names class.path (path_names e.class.path)) (table_of xs)) split ∙ first_found before e after differ in
     ap (λ (o : Option (List (List ℕ))). option_and_then (λ (path : List (List ℕ)). find (λ (class : Class). same_names class.path path) (table_of entries)) o) named ∙ found
 
+-- some of a path that stands among them does too
 pub filter_stands : (whole : List Segment) (test : Segment → Bool) (path : List Segment) → StandAmong whole path → StandAmong whole (filter test path)
 filter_stands whole test [] h = tt
 filter_stands whole test (s ∷ path) h = by_test (test s) (filter_stands whole test path h.1)

@@ -51,6 +51,7 @@ class_gives entries class names test is stands among others few =
     subst (λ (c : Class). NamesGive entries names test c) stands.4
     (names_give entries stands.0 stands.1 stands.2 names test is stands.3 among (subst (λ (c : Class). KnowsOthers names test c.path) (sym stands.4) others) few)
 
+-- an open of what is shown goes through at a client that may take it
 pub open_passes : (entries : List Entry) (edits : Edits) (player : ℕ) (earlier : List ℕ) (n : ℕ) (seen : Seen) (past : Past) (ch : ℕ) (test : Segment → Bool)
     → IsTable entries → AreAccepted (table_of entries) edits → slice_get (sight (table_of entries) edits player earlier) n ≡ Some seen
     → AreAmong (segments_of entries) (names_of past) → KnowsOthers (names_of past) test seen.class.path

@@ -16,6 +16,7 @@ use Rattle.payload_laws.specs.Passing.{UpdatePasses, CallPasses, comes_to, readi
 use Rattle.payload_laws.proofs.Updates.{update_some, update_fits}
 use Rattle.payload_laws.proofs.SightSpelling.{due_fit}
 
+-- an update of due handles goes through where the copy holds the channel
 pub update_passes : (seen : Seen) (made past : Past) (ch : ℕ) → HasLimits seen.class → AreValues seen.class 0 seen.values → 0 < length (due_pairs made seen) → copy_on past ch ≡ Some seen.actor → copy_class past seen.actor ≡ Some seen.class
     → UpdatePasses past ch seen.actor seen.class (update_pairs seen (due_pairs made seen))
 update_passes seen made past ch limits v some holds known =
@@ -42,6 +43,7 @@ goes_over : (side : Side) (way : Way) → goes_from side way ≡ true → comes_
 goes_over AtServer way h = h
 goes_over AtClient way h = h
 
+-- a call that fits goes through where the reader knows the actor by its class
 pub call_passes : (side : Side) (past : Past) (actor number : ℕ) (call : Call) (args : List Arg) (class : Class) → HasLimits class → IsActor actor → fitting_call side number args class ≡ Some call → call_class (reading_side side) past actor ≡ Some class
     → CallPasses (reading_side side) past actor number call args
 call_passes side past actor number call args class limits is fits known =

@@ -22,6 +22,7 @@ on_handle class more h = do
 regroup : (a b c d r : List Bool) → ((a ++ b) ++ c) ++ d ++ r ≡ a ++ (b ++ (c ++ d ++ r))
 regroup a b c d r = simp append_assoc
 
+-- a list of pairs begins with its first handle and value
 pub list_is : (class : Class) (p : Pair) (pairs : List Pair) (rest : List Bool) → list_bits class (p ∷ pairs) ++ rest ≡ packed_bits p.handle ++ (value_bits (kind_at class p.handle) p.value ++ (list_bits class pairs ++ rest))
 list_is class p pairs rest = regroup (packed_bits p.handle) (value_bits (kind_at class p.handle) p.value) (flat_map (λ p. pair_bits class p) pairs) (packed_bits 0) rest
 

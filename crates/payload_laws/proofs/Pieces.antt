@@ -37,6 +37,7 @@ counted_by n false e =
     let many : part_count n ≡ (n + 6999) / 7000 = rw e refl in
     record { some = omega (arith, many, long); enough = omega (arith, many, long); needed = λ i a b. omega (arith, many, long, a, b) }
 
+-- the count of parts has room, and is at least one
 pub counted : (n : ℕ) → Counted n
 counted n = counted_by n (nat_le n 7000) refl
 
@@ -75,9 +76,11 @@ piece_length bits i = length-take 7000 (drop (7000 * i) bits) ∙ ap (λ n. min 
 pub piece_most : (bits : List Bool) (i : ℕ) → length (piece_at bits i) ≤ 7000
 piece_most bits i = omega (arith, piece_length bits i)
 
+-- a piece before the last is full
 pub piece_full : (bits : List Bool) (i : ℕ) → i + 1 < part_count (length bits) → length (piece_at bits i) ≡ 7000
 piece_full bits i h = let needed = (counted (length bits)).needed (i + 1) (omega arith) h in omega (arith, piece_length bits i, needed)
 
+-- the last piece has what is left
 pub piece_last : (bits : List Bool) (i : ℕ) → i + 1 ≡ part_count (length bits) → 7000 * i + length (piece_at bits i) ≡ length bits
 piece_last bits i h =
     by_first (nat_lt 0 i) refl
@@ -97,6 +100,7 @@ piece_last bits i h =
 
 -- ---- parts
 
+-- the only part is whole
 pub part_whole : (count i : ℕ) → count ≡ 1 → part_at count i ≡ Whole
 part_whole count i e = rw e refl
 
@@ -106,12 +110,15 @@ other_is a b h = grind (arith, nat_tests)
 smaller_is : (a b : ℕ) → a < b → (a == b) ≡ false
 smaller_is a b h = grind (arith, nat_tests)
 
+-- the first of several is marked so
 pub part_first : (count : ℕ) → 1 < count → part_at count 0 ≡ First
 part_first count h = rw (other_is 1 count h) refl
 
+-- one between the first and the last is marked so
 pub part_middle : (count i : ℕ) → 0 < i → i + 1 < count → part_at count i ≡ Middle
 part_middle count i s h = rw (other_is 1 count (omega (arith, s, h)), other_is 0 i s, smaller_is (i + 1) count h) refl
 
+-- the last of several is marked so
 pub part_last : (count i : ℕ) → 0 < i → i + 1 ≡ count → part_at count i ≡ Last
 part_last count i s h = rw (other_is 1 count (omega (arith, s, h)), other_is 0 i s, eq-eqb (i + 1) count h) refl
 
@@ -123,10 +130,12 @@ part_is ch n message i part e = e
 ends_as : (b : Bunch) (part : Part) → b.part ≡ part → ends_payload b ≡ elim part [ Whole ↦ true | Last ↦ true | Lone ↦ true | First ↦ false | Middle ↦ false ]
 ends_as b part e = rw e refl
 
+-- the last part ends its payload
 pub ends_last : (ch n : ℕ) (message : Message) (i : ℕ) → i + 1 ≡ parts_of message → ends_payload (made_bunch ch n message i) ≡ true
 ends_last ch n message zero e = ends_as (made_bunch ch n message 0) Whole (part_whole (parts_of message) 0 (sym e))
 ends_last ch n message (suc i) e = ends_as (made_bunch ch n message (suc i)) Last (part_last (parts_of message) (suc i) (omega arith) e)
 
+-- a part before the last doesn't
 pub goes_on : (ch n : ℕ) (message : Message) (i : ℕ) → i + 1 < parts_of message → ends_payload (made_bunch ch n message i) ≡ false
 goes_on ch n message zero h = ends_as (made_bunch ch n message 0) First (part_first (parts_of message) h)
 goes_on ch n message (suc i) h = ends_as (made_bunch ch n message (suc i)) Middle (part_middle (parts_of message) (suc i) (omega arith) h)
@@ -142,10 +151,12 @@ kept_bits ch first message (suc i) =
     ∙ flat_map-append (λ (b : Bunch). b.payload) (reverse kept) (b ∷ [])
     ∙ rw (kept_bits ch first message i, append-nil (piece_at (message_bits message) i)) (piece_more (message_bits message) i)
 
+-- the first of the kept parts and this one is the message's first
 pub kept_first : (ch first : ℕ) (message : Message) (i : ℕ) → first_of (kept_parts ch first message i) (made_bunch ch (first + i) message i) ≡ made_bunch ch first message 0
 kept_first ch first message zero = let e : first + 0 ≡ first = omega arith in rw e refl
 kept_first ch first message (suc i) = kept_first ch first message i
 
+-- the first i parts are i
 pub kept_count : (ch first : ℕ) (message : Message) (i : ℕ) → length (kept_parts ch first message i) ≡ i
 kept_count ch first message zero = refl
 kept_count ch first message (suc i) = ap suc (kept_count ch first message i)

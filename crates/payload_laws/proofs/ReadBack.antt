@@ -13,6 +13,7 @@ use Rattle.payload_laws.proofs.Fields.{Answer}
 use Rattle.payload_laws.proofs.Segments.{are_some}
 use Rattle.payload_laws.proofs.Messages.{open_read, client_call_read, server_call_read, update_read, gone_read}
 
+-- an open's flag says whether it exports
 pub some_exports : (exports : List Segment) (actor : ℕ) (class : Class) (values : List Pair) → has_exports (Opens exports actor class values) ≡ are_some exports
 some_exports [] actor class values = refl
 some_exports (s ∷ exports) actor class values = refl

@@ -68,6 +68,7 @@ segment_read s rest is =
 may_read : {A : Type 0} (o : Option Cause) (value : A) (bits : List Bool) → o ≡ None → may_fail o value bits ≡ Ok (value, bits)
 may_read o value bits e = rw e refl
 
+-- exported segments are read as they were spelled
 pub segments_read : (names exports : List Segment) (rest : List Bool) → AreLearnt names exports → segments_at names (length exports) (flat_map segment_bits exports ++ rest) ≡ Ok (exports, rest)
 segments_read names [] rest l = refl
 segments_read names (s ∷ exports) rest l =

@@ -110,6 +110,7 @@ from_where f x xs n y None e later h = let r = later n h in record { place = suc
 from_where f x xs zero y (Some z) e later h = record { place = 0; item = x; there = refl; gives = e ∙ h }
 from_where f x xs (suc n) y (Some z) e later h = let r = later n h in record { place = suc r.place; item = r.item; there = r.there; gives = r.gives }
 
+-- an item of a filtered list comes from one of the list
 pub from : {A B : Type 0} (f : A → Option B) (xs : List A) (n : ℕ) (y : B) → slice_get (filter_map f xs) n ≡ Some y → From f xs y
 from f [] n y h = absurd (cc)
 from f (x ∷ xs) n y h = from_where f x xs n y (f x) refl (λ m k. from f xs m y k) h
@@ -121,6 +122,7 @@ pub record Numbered (a low many : ℕ) : Type 0 where
   pub least : low ≤ number
   pub most : number < low + many
 
+-- an actor's guid among those spawned is twice its number
 pub numbered : (a low many n : ℕ) → slice_get (map (λ n. 2 * n) (range_with_len low many)) n ≡ Some a → Numbered a low many
 numbered a low zero n h = absurd (cc)
 numbered a low (suc many) zero h = record { number = low; is = sym (same_some (2 * low) a h); least = omega arith; most = omega arith }

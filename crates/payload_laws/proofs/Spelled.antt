@@ -23,6 +23,7 @@ use Rattle.payload_laws.proofs.Values.{turned, twice_is, small_count}
 pub ok_same : {Why B : Type 0} (a b : B × List Bool) → ◌≡◌ {A = Answer Why B} (Ok a) (Ok b) → a ≡ b
 ok_same a b e = cc
 
+-- equal answers have equal parts
 pub ok_parts : {Why A : Type 0} (a c : A) (b d : List Bool) → ◌≡◌ {A = Answer Why A} (Ok (a, b)) (Ok (c, d)) → (a ≡ c) × (b ≡ d)
 ok_parts {A = A} a c b d e = let p : ◌≡◌ {A = A × List Bool} (a, b) (c, d) = cc in (ap (λ (q : A × List Bool). q.0) p, ap (λ (q : A × List Bool). q.1) p)
 
@@ -48,9 +49,11 @@ or_short_where {Why = Why} {A = A} leading bits got (Some it) e h = let some : �
 or_short_of : {Why A : Type 0} (leading : List Bool → Option (A × List Bool)) (bits : List Bool) (got : A × List Bool) → or_short {Why = Why} leading bits ≡ Ok got → leading bits ≡ Some got
 or_short_of {Why = Why} leading bits got h = or_short_where {Why = Why} leading bits got (leading bits) refl h
 
+-- a number below its bound was spelled so
 pub int_spelled : {Why : Type 0} (max v : ℕ) (bits rest : List Bool) → 1 ≤ max → max ≤ 2 ^ 32 → int_at {Why = Why} max bits ≡ Ok (v, rest) → (v < max) × (bits ≡ int_bits max v ++ rest)
 int_spelled {Why = Why} max v bits rest h k e = int-spelled max v bits rest h k (or_short_of {Why = Why} (leading_int max) bits (v, rest) e)
 
+-- a number of fixed width was spelled so
 pub fixed_spelled : {Why : Type 0} (w v : ℕ) (bits rest : List Bool) → fixed_at {Why = Why} w bits ≡ Ok (v, rest) → (v < 2 ^ w) × (bits ≡ fixed_bits w v ++ rest)
 fixed_spelled {Why = Why} w v bits rest e = leading_fixed-spelled w v bits rest (or_short_of {Why = Why} (leading_fixed w) bits (v, rest) e)
 
@@ -59,6 +62,7 @@ packed_where {Why = Why} why v bits rest (Ok got) e h = let some : ◌≡◌ {A 
 packed_where {Why = Why} why v bits rest (Err NumRefusal.Short) e h = let none : ◌≡◌ {A = Answer Why ℕ} (Err Fault.Short) (Ok (v, rest)) = rw (packed_at, e) at h in absurd (cc)
 packed_where {Why = Why} why v bits rest (Err NumRefusal.Padded) e h = let none : ◌≡◌ {A = Answer Why ℕ} (Err (Broken (length bits) why)) (Ok (v, rest)) = rw (packed_at, e) at h in absurd (cc)
 
+-- a packed number was spelled so
 pub packed_spelled : {Why : Type 0} (why : Why) (v : ℕ) (bits rest : List Bool) → packed_at why bits ≡ Ok (v, rest) → (v < 2 ^ 32) × (bits ≡ packed_bits v ++ rest)
 packed_spelled why v bits rest h = packed-spelled v bits rest (packed_where why v bits rest (leading_packed bits) refl h)
 

@@ -20,6 +20,7 @@ types_of : (props : List Prop) → list_all is_prop props ≡ true → list_all 
 types_of [] h = refl
 types_of (p ∷ props) h = and_from (is_type false p.kind) _ (and_parts _ _ (and_parts _ _ (and_parts _ _ h).0).0).1 (types_of props (and_parts _ _ h).1)
 
+-- a class that a table takes keeps the limits
 pub class_limits : (before : List Entry) (e : Entry) → IsClass before e → HasLimits e.class
 class_limits before e is = record { props = types_of e.class.props is.props; calls = is.calls; handles = is.handles; call_count = is.calls_most }
 
@@ -127,11 +128,14 @@ guid_below [] h = omega arith
 guid_below (s ∷ []) h = h.0.guid
 guid_below (s ∷ t ∷ path) h = guid_below (t ∷ path) h.1
 
+-- the guid of a class of the table has 32 bits
 pub class_below : (entries before : List Entry) (e : Entry) (after : List Entry) → IsTable entries → entries ≡ before ++ e ∷ after → class_guid e.class < 2 ^ 32
 class_below entries before e after is split = guid_below e.class.path (path_segments entries before e after is split)
 
+-- a class of the table keeps the limits
 pub limits_in : (entries before : List Entry) (e : Entry) (after : List Entry) → IsTable entries → entries ≡ before ++ e ∷ after → HasLimits e.class
 limits_in entries before e after is split = class_limits before e (is.classes before e after split)
 
+-- its path has at most eight segments
 pub few_in : (entries before : List Entry) (e : Entry) (after : List Entry) → IsTable entries → entries ≡ before ++ e ∷ after → length e.class.path ≤ 8
 few_in entries before e after is split = (is.classes before e after split).path_most

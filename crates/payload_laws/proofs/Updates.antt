@@ -84,5 +84,6 @@ update_fits seen due v =
     let of = longest (λ (pairs : List Pair). nat_le (length (message_bits (update_message seen pairs))) 6000) (length due) due in
     rw of.prefix (front_fits seen.class 0 of.count due v)
 
+-- an update has one part
 pub update_parts : (seen : Seen) (due : List Pair) → parts_of (update_message seen (update_pairs seen due)) ≡ 1
 update_parts seen due = one_part _ (omega (arith, update_most seen due))

@@ -47,6 +47,7 @@ turned (suc k) m n h =
     let twice : m + n + 1 ≡ 2 * 2 ^ k = omega (arith, pow-suc 2 k) in
     rw (other_parity m n (2 ^ k) twice, turned k (m / 2) (n / 2) (half_turned m n (2 ^ k) twice)) refl
 
+-- the next power of two is twice as much
 pub twice_is : (w : ℕ) → 2 ^ (w + 1) ≡ 2 * 2 ^ w
 twice_is w = let e : w + 1 ≡ suc w = omega arith in rw e (omega (arith, pow-suc 2 w))
 
@@ -68,9 +69,11 @@ signed_value w (negsuc n) rest h =
 
 -- ---- a value of a kind
 
+-- an enum has at most 65,535 values
 pub small_count : (argument : Bool) (count : ℕ) → is_type argument (Enum count) ≡ true → count ≤ 65535
 small_count argument count h = leb-true count 65535 (and_parts (nat_le 2 count) (nat_le count 65535) h).1
 
+-- a value is read as it was spelled
 pub value_read : (argument : Bool) (kind : Kind) (v : ℤ) (rest : List Bool) → is_type argument kind ≡ true → fits kind v ≡ true → value_at kind (value_bits kind v ++ rest) ≡ Ok (v, rest)
 value_read argument Kind.Bool v rest k f = fixed_value 1 v rest f
 value_read argument U8 v rest k f = fixed_value 8 v rest f
