@@ -27,6 +27,7 @@ mine n players = find (λ (p : Player). p.number == n) players
 abbrev pub KeepsNumber : (Player → Reported) → Type 0
 KeepsNumber does = (p : Player) → (does p).0.number ≡ p.number
 
+-- what is done to each player is done to this one
 pub mine_all : (n : ℕ) (does : Player → Reported) → KeepsNumber does → (players : List Player) → mine n (map (λ (p : Player). (does p).0) players) ≡ option_map (λ (p : Player). (does p).0) (mine n players)
 mine_all n does k [] = refl
 mine_all n does k (p ∷ players) =
@@ -36,6 +37,7 @@ mine_all n does k (p ∷ players) =
     by true x y e = refl
     by false x y e = e
 
+-- what is done to this player alone
 pub mine_one : (n : ℕ) (does : Player → Reported) → KeepsNumber does → (players : List Player) → mine n (map (λ (p : Player). if p.number == n then (does p).0 else p) players) ≡ option_map (λ (p : Player). (does p).0) (mine n players)
 mine_one n does k [] = refl
 mine_one n does k (p ∷ players) = by (p.number == n) refl (mine n (map (λ (q : Player). if q.number == n then (does q).0 else q) players)) (mine n players) (mine_one n does k players)
@@ -44,6 +46,7 @@ mine_one n does k (p ∷ players) = by (p.number == n) refl (mine n (map (λ (q 
     by true e x y h = ap (λ m. cond (m == n) (Some (does p).0) x) (k p) ∙ ap (λ b. cond b (Some (does p).0) x) e
     by false e x y h = ap (λ b. cond b (Some p) x) e ∙ h
 
+-- what is done to another player leaves this one
 pub mine_other : (n who : ℕ) (does : Player → Reported) → KeepsNumber does → (who == n) ≡ false → (players : List Player) → mine n (map (λ (p : Player). if p.number == who then (does p).0 else p) players) ≡ mine n players
 mine_other n who does k ne [] = refl
 mine_other n who does k ne (p ∷ players) = by (p.number == who) refl (mine n (map (λ (q : Player). if q.number == who then (does q).0 else q) players)) (mine n players) (mine_other n who does k ne players)
@@ -56,6 +59,7 @@ mine_other n who does k ne (p ∷ players) = by (p.number == who) refl (mine n (
 
 -- ---- joins
 
+-- a new player stands in order of numbers
 abbrev pub ordered : Player → List Player → List Player
 ordered new players = insert_in_order (λ (one : Player) (two : Player). nat_lt one.number two.number) new players
 
@@ -71,6 +75,7 @@ mine_joined n new e (p ∷ players) = by (nat_lt p.number new.number) refl (mine
     by true h later = ap (λ b. cond b (Some p) (mine n (ordered new players))) (below_other p.number new.number n h e) ∙ later
     by false h later = ap (λ b. cond b (Some new) (mine n (p ∷ players))) (eq-eqb new.number n e)
 
+-- another player's join leaves this one
 pub mine_joined_other : (n : ℕ) (new : Player) → (new.number == n) ≡ false → (players : List Player) → mine n (ordered new players) ≡ mine n players
 mine_joined_other n new ne [] = ap (λ b. cond b (Some new) None) ne
 mine_joined_other n new ne (p ∷ players) = by (nat_lt p.number new.number) (mine_joined_other n new ne players)
@@ -81,14 +86,17 @@ mine_joined_other n new ne (p ∷ players) = by (nat_lt p.number new.number) (mi
 
 -- ---- numbers stay
 
+-- an event leaves the player's number
 pub event_number : (side : Side) (event : Event) (p : Player) → (with_event side event p).number ≡ p.number
 event_number AtServer event p = refl
 event_number AtClient event p = refl
 
+-- so does a tick
 pub tick_number : (table : Table) (edits : Edits) (side : Side) → KeepsNumber (after_tick_of table edits side)
 tick_number table edits AtServer p = refl
 tick_number table edits AtClient p = refl
 
+-- so does a delivery
 pub deliver_number : (table : Table) (edits : Edits) (side : Side) (k : ℕ) → KeepsNumber (after_delivery table edits side k)
 deliver_number table edits side k p = delivered_number table edits side k p (slice_get (out_at table (other_side side) p) (k - 1))
 
@@ -100,6 +108,7 @@ deliveries_number table edits side (k ∷ ks) told = deliveries_number table edi
 abbrev pub new_for : Table → Side → ℕ → Player → List ℕ
 new_for table side every p = filter (is_kept every) (range_with_len (told_before side p + 1) (length (out_at table (other_side side) p) - told_before side p))
 
+-- so do deliveries of what is new
 pub deliver_new_number : (table : Table) (edits : Edits) (side : Side) (every : ℕ) → KeepsNumber (after_new_deliveries table edits side every)
 deliver_new_number table edits side every p =
     deliveries_number table edits side (new_for table side every p) (with_told side (length (out_at table (other_side side) p)) p, []) ∙ told_number side (length (out_at table (other_side side) p)) p
@@ -117,7 +126,7 @@ delivered_same table one other side k p (Some bytes) =
     (after_datagram table one side (λ verdict. Answered side p.number k (Says verdict)) bytes p) (after_datagram table other side (λ verdict. Answered side p.number k (Says verdict)) bytes p) refl
 
 -- two ways to go on that do the same with each player
-abbrev pub DoSame : (does did : Player → Reported) → Type 0
+abbrev DoSame : (does did : Player → Reported) → Type 0
 DoSame does did = (p : Player) → (does p).0 ≡ (did p).0
 
 deliver_same : (table : Table) (one other : Edits) (side : Side) (k : ℕ) → DoSame (after_delivery table one side k) (after_delivery table other side k)
@@ -158,6 +167,7 @@ joined_same n new players others e = elim (cases_Bool (new.number == n)) [
   | inr t ↦ mine_joined_other n new t players ∙ e ∙ sym (mine_joined_other n new t others)
 ]
 
+-- who is found under a number has it
 pub found_number : (n : ℕ) (players : List Player) (p : Player) → mine n players ≡ Some p → p.number ≡ n
 found_number n [] p e = absurd (cc)
 found_number n (q ∷ players) p e = by (q.number == n) refl (found_number n players p) e

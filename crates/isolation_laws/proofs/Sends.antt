@@ -395,6 +395,7 @@ module _ (n : ℕ) where
       sent_by_feed table one h ∙ as_heard table (mine n (story_of table one).0.players) ∙ ap heard_sends e
       ∙ sym (as_heard table (mine n (story_of table other).0.players)) ∙ sym (sent_by_feed table other k)
 
+-- equal server feeds give equal packets
 pub sends_by_feed : SendsByFeed
 sends_by_feed table player one other h k e = same_sends player table one other h k e
 
@@ -412,9 +413,11 @@ asked_same ask table n one other side e =
     asked_of ask table side (mine n (story_of table one).0.players) ∙ ap (option_map (λ (heard : End × List Event). ask heard.0 heard.1)) e
     ∙ sym (asked_of ask table side (mine n (story_of table other).0.players))
 
+-- equal feeds give equal verdicts
 pub verdicts_by_feed : VerdictsByFeed
 verdicts_by_feed table n one other side e bytes = asked_same (λ end feed. verdict_of end (past_of end feed) bytes) table n one other side e
 
+-- equal feeds give equal answers
 pub answers_by_feed : AnswersByFeed
 answers_by_feed table n one other side e a m args =
     asked_same (λ end feed. answer_of side (past_of end feed) a m args) table n one other side e
@@ -440,6 +443,7 @@ unseen_joins table n before (Dump player) after h = refl
 unseen_joins table n before (AskSettled player a) after h = refl
 unseen_joins table n before (Forge side player bytes) after h = refl
 
+-- an unseen line leaves the packets
 pub sends_stay : SendsStayEqual
 sends_stay table n before after line h once =
     sends_by_feed table n (before ++ after) (before ++ line ∷ after) once (sym (once_without n line (unseen_joins table n before line after h) before after) ∙ once) (feeds_stay table n before after line h AtServer)

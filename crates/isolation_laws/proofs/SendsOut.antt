@@ -31,7 +31,7 @@ shown_numbered n k (bytes ∷ packets) =
     by true e xs = refl
     by false e xs = absurd (cc)
 
-pub sends_out : (n : ℕ) (end : End) (feed : List Event) → sends_of n end feed ≡ numbered 1 (out_of end feed)
+sends_out : (n : ℕ) (end : End) (feed : List Event) → sends_of n end feed ≡ numbered 1 (out_of end feed)
 sends_out n end [] = refl
 sends_out n end (Got bytes ∷ feed) = sends_out n end feed ∙ ap (numbered 1) (sym (got_sends end (past_of end feed) bytes))
 sends_out n end (Call a m args ∷ feed) = sends_out n end feed ∙ ap (numbered 1) (sym (call_sends end (past_of end feed) a m args))
@@ -51,5 +51,6 @@ by_heard : (n : ℕ) (o : Option (End × List Event)) → heard_sends n o ≡ un
 by_heard n None = refl
 by_heard n (Some heard) = sends_out n heard.0 heard.1
 
+-- the packets are those of the player's own feed
 pub lines_are_out : SendsOut
 lines_are_out table n lines once = sent_by_feed n table lines once ∙ as_heard n table (mine n (story_of table lines).0.players) ∙ by_heard n (heard_by table lines AtServer n)

@@ -95,14 +95,14 @@ found_lacks table n a one w p found =
 -- ---- each kind of line
 
 -- the player is found alike with the line and without it
-abbrev pub FoundSame : Table → ℕ → (before : List Line) → Line → (after : List Line) → Type 0
+abbrev FoundSame : Table → ℕ → (before : List Line) → Line → (after : List Line) → Type 0
 FoundSame table n before line after = found_in table n (before ++ after) ≡ found_in table n (before ++ line ∷ after)
 
 goes_on : (table : Table) (n : ℕ) (before : List Line) (line : Line) (after : List Line) → found_in table n before ≡ found_in table n (before ++ line ∷ []) → Course table n before (before ++ line ∷ []) after → FoundSame table n before line after
 goes_on table n before line after e course = follow table n before (before ++ line ∷ []) after course e ∙ ap (found_in table n) (append_assoc before (line ∷ []) after)
 
 -- lines about others
-pub others_unseen : (table : Table) (n : ℕ) (before : List Line) (line : Line) (after : List Line) → edit_in line ≡ None → is_of_other n line ≡ true → FoundSame table n before line after
+others_unseen : (table : Table) (n : ℕ) (before : List Line) (line : Line) (after : List Line) → edit_in line ≡ None → is_of_other n line ≡ true → FoundSame table n before line after
 others_unseen table n before line after e other =
     goes_on table n before line after
     (sym (ap (λ (told : Story × List Report). mine n told.0.players) (story_more table before line) ∙ other_line table n line (story_of table before).0 other))
@@ -119,7 +119,7 @@ from_parts test before line after h =
     let parts = and_parts (holds_along test before after) (holds_along test (before ++ line ∷ []) after) h in (along test before after parts.0, along test (before ++ line ∷ []) after parts.1)
 
 -- edits of actors out of sight
-pub edits_out_of_sight : (table : Table) (n : ℕ) (before : List Line) (x : Edit) (a : ℕ) (after : List Line) → named_actor x ≡ Some a → ((c : ℕ) → x ≡ Destroy c → ⊥)
+edits_out_of_sight : (table : Table) (n : ℕ) (before : List Line) (x : Edit) (a : ℕ) (after : List Line) → named_actor x ≡ Some a → ((c : ℕ) → x ≡ Destroy c → ⊥)
     → holds_from (is_irrelevant table n a) before (ApplyEdit x) after ≡ true → FoundSame table n before (ApplyEdit x) after
 edits_out_of_sight table n before x a after e d h =
     let parts = from_parts (is_irrelevant table n a) before (ApplyEdit x) after h in
@@ -127,7 +127,7 @@ edits_out_of_sight table n before x a after e d h =
     (record { grows = λ one line t w. tt; shows = λ newer one q r s w p found. edit_unseen table x a newer (edits_of before) n (earlier_of p) e d r s }) tt parts.0 parts.1
 
 -- destroys of actors never relevant
-pub destroys_out_of_sight : (table : Table) (n : ℕ) (before : List Line) (a : ℕ) (after : List Line) → holds_always (is_irrelevant table n a) before (ApplyEdit (Destroy a)) after ≡ true → FoundSame table n before (ApplyEdit (Destroy a)) after
+destroys_out_of_sight : (table : Table) (n : ℕ) (before : List Line) (a : ℕ) (after : List Line) → holds_always (is_irrelevant table n a) before (ApplyEdit (Destroy a)) after ≡ true → FoundSame table n before (ApplyEdit (Destroy a)) after
 destroys_out_of_sight table n before a after h =
     let both = and_parts (holds_along (is_irrelevant table n a) [] before) (holds_from (is_irrelevant table n a) before (ApplyEdit (Destroy a)) after) h in
     let parts = from_parts (is_irrelevant table n a) before (ApplyEdit (Destroy a)) after both.1 in
@@ -140,7 +140,7 @@ destroys_out_of_sight table n before a after h =
     (worlds_along (is_irrelevant table n a) [] before start (first_along (is_irrelevant table n a) [] before start)) parts.0 parts.1
 
 -- values for owners, of actors that the player doesn't own
-pub owners_values_unseen : (table : Table) (n : ℕ) (before : List Line) (a h : ℕ) (v : ℤ) (after : List Line) → has_cond is_owner_only table (edits_of before) a h ≡ true
+owners_values_unseen : (table : Table) (n : ℕ) (before : List Line) (a h : ℕ) (v : ℤ) (after : List Line) → has_cond is_owner_only table (edits_of before) a h ≡ true
     → holds_from (λ edits. not (owns edits n a)) before (ApplyEdit (Set a h v)) after ≡ true → FoundSame table n before (ApplyEdit (Set a h v)) after
 owners_values_unseen table n before a h v after c k =
     let parts = from_parts (λ edits. not (owns edits n a)) before (ApplyEdit (Set a h v)) after k in
@@ -152,7 +152,7 @@ owners_values_unseen table n before a h v after c k =
     }) tt parts.0 parts.1
 
 -- values that are switched off
-pub custom_values_unseen : (table : Table) (n : ℕ) (before : List Line) (a h : ℕ) (v : ℤ) (after : List Line) → has_cond is_custom table (edits_of before) a h ≡ true
+custom_values_unseen : (table : Table) (n : ℕ) (before : List Line) (a h : ℕ) (v : ℤ) (after : List Line) → has_cond is_custom table (edits_of before) a h ≡ true
     → holds_from (λ edits. not (is_on edits a h)) before (ApplyEdit (Set a h v)) after ≡ true → FoundSame table n before (ApplyEdit (Set a h v)) after
 custom_values_unseen table n before a h v after c k =
     let parts = from_parts (λ edits. not (is_on edits a h)) before (ApplyEdit (Set a h v)) after k in
@@ -198,7 +198,7 @@ out_of_sight table n before (Spawn class u v) after k = absurd (cc)
 out_of_sight table n before (View p u v) after k = absurd (cc)
 out_of_sight table n before (Team p t) after k = absurd (cc)
 
-pub unseen : (table : Table) (n : ℕ) (before : List Line) (line : Line) (after : List Line) → is_unseen table n before line after ≡ true → FoundSame table n before line after
+unseen : (table : Table) (n : ℕ) (before : List Line) (line : Line) (after : List Line) → is_unseen table n before line after ≡ true → FoundSame table n before line after
 unseen table n before (ApplyEdit x) after h = elim (or_cases (hides_value table n before x after) (is_out_of_sight table n before x after) h) [
   | inl e ↦ value_hidden table n before x after e
   | inr e ↦ out_of_sight table n before x after e
@@ -244,6 +244,7 @@ asking_stays table n (CallTo side player a m args) story h = absurd (cc)
 asking_stays table n (CallAll a m args) story h = absurd (cc)
 asking_stays table n (Forge side player bytes) story h = absurd (cc)
 
+-- a line that asks leaves both feeds
 pub asking_changes_nothing : AskingChangesNothing
 asking_changes_nothing table n before after line h side =
     let stays = asking_stays table n line (story_of table before).0 h in

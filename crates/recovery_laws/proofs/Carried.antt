@@ -34,12 +34,14 @@ use Rattle.recovery_laws.proofs.Newest.{value_is, quiet_stays, removes_said, ope
 use Rattle.recovery_laws.proofs.Handing.{same_end, from_index, from_append, Trail, all_handed, all_first, all_second, among_from, HandedAt, handed_at, handed_is}
 use Rattle.recovery_laws.proofs.Taken.{TookAt, took_at, later_packets, opened_index, open_handed, made_then}
 
+-- what holds of each item of a list holds of all by recursion
 pub all_by_among : {A : Type 0} (P : A → Type 0) (xs : List A) → ((x : A) → IsIn x xs → P x) → AllByRecursion P xs
 all_by_among P [] h = tt
 all_by_among P (x ∷ xs) h = (h x (inl refl), all_by_among P xs (λ y q. h y (inr q)))
 
 -- ---- no update is reliable
 
+-- the message is no update
 abbrev pub NoUpdate : Message → Type 0
 NoUpdate (Opens exports actor class values) = Unit {0}
 NoUpdate (Closes actor sleeps) = Unit {0}
@@ -58,6 +60,7 @@ no_updates : (ms : List Numbered) → Brackets ms → AllByRecursion (λ (x : Nu
 no_updates [] h = tt
 no_updates (made ∷ before) h = (no_update before made.1 h.0, no_updates before h.1)
 
+-- what was handed on reliably is no update
 pub reliables : (server client : Past) → BracketsFit server → ((ch : ℕ) → Trail server client ch) → AllByRecursion (λ (d : Delivered). d.reliable ≡ true → NoUpdate d.message) (delivered_of client)
 reliables server client fit trails = all_by_among (λ (d : Delivered). d.reliable ≡ true → NoUpdate d.message) (delivered_of client) one
   where
@@ -80,6 +83,7 @@ quiet_says a h (Updates actor class values) n e = absurd n
 quiet_says a h (Calls actor number call args) n e = refl
 quiet_says a h (Gone actor) n e = refl
 
+-- of an actor's quiet payloads, each that sets the handle sets this value
 pub says_one : (a h : ℕ) (v : ℤ) (ds : List Delivered) → AllByRecursion (IsQuietOf a) ds → AllByRecursion (λ (d : Delivered). d.reliable ≡ true → NoUpdate d.message) ds
     → AllByRecursion (λ (d : Delivered). d.reliable ≡ false → IsOneOf v (value_said a h d.message)) ds → AllByRecursion (λ (d : Delivered). IsOneOf v (value_applied a h d)) ds
 says_one a h v [] q r l = tt

@@ -191,6 +191,7 @@ module _ (left right : End) (l r : List Event) (player : ℕ) (edits : Edits) (s
 
 -- ---- settled actors
 
+-- what a test says of a whole list it says of each item
 pub all_of_list : (test : Pair → Bool) (before : List Pair) (pair : Pair) (after : List Pair) → list_all test (before ++ pair ∷ after) ≡ true → test pair ≡ true
 all_of_list test [] pair after h = (and_parts (test pair) (list_all test after) h).0
 all_of_list test (p ∷ before) pair after h = all_of_list test before pair after (and_parts (test p) (list_all test (before ++ pair ∷ after)) h).1

@@ -32,6 +32,7 @@ use Rattle.connection_laws.proofs.StoriesTalk.{linked}
 
 -- ---- at the front
 
+-- the later past is the earlier one with deeds at its front
 abbrev pub Extends : (past later : Past) → Type 0
 Extends past later = (more : Past) × (later ≡ more ++ past)
 
@@ -54,9 +55,10 @@ extending end before = record { is_run = λ past h. h.0; goes = extends_goes end
 
 -- ---- a packet under way
 
-abbrev pub Under : ℕ → Past → Past → Type 0
+abbrev Under : ℕ → Past → Past → Type 0
 Under n rest now = (es : List Entry) × ((ds : List Delivered) × (now ≡ Took n es ds ∷ rest))
 
+-- a past that takes packet n, on top of what was there before
 pub record Closes (n : ℕ) (rest now : Past) : Type 0 where
   pub cause : Cause
   pub past : Past
@@ -64,7 +66,7 @@ pub record Closes (n : ℕ) (rest now : Past) : Type 0 where
   pub is : now ≡ Ended (ByCause cause) ∷ past
 
 -- it was heard to its end, or it closed the end
-abbrev pub Heard : ℕ → Past → Past → Type 0
+abbrev Heard : ℕ → Past → Past → Type 0
 Heard n rest now = Under n rest now ⊎ Closes n rest now
 
 under_handed : (n : ℕ) (rest : Past) (d : Delivered) (now : Past) → Under n rest now → Under n rest (with_handed d now)
@@ -86,7 +88,7 @@ entries_heard end n rest (entry ∷ more) now u =
     by None h = h
     by (Some cause) h = inr (record { cause = cause; past = (entry_result end now entry).past; under = stays; is = refl })
 
-pub packet_heard : (end : End) (past : Past) (p : Packet) → Heard (unsigned_abs (number_near past p.number)) past (after_packet end past p)
+packet_heard : (end : End) (past : Past) (p : Packet) → Heard (unsigned_abs (number_near past p.number)) past (after_packet end past p)
 packet_heard end past p =
     entries_heard end (unsigned_abs (number_near past p.number)) past (entries_in end.version p) (Took (unsigned_abs (number_near past p.number)) [] [] ∷ past) ([], ([], refl))
 
@@ -114,7 +116,7 @@ event_extends end feed (Got bytes) =
     (λ e. ([], refl)) (λ e. reading_extends end (past_of end feed) (Reading.packet_of end.version bytes))
 
 -- an end that isn't closed never was
-pub closed_before : (more past : Past) → is_closed_by (more ++ past) ≡ false → is_closed_by past ≡ false
+closed_before : (more past : Past) → is_closed_by (more ++ past) ≡ false → is_closed_by past ≡ false
 closed_before [] past h = h
 closed_before (deed ∷ more) past h = closed_before more past (right (is_closing deed) (is_closed_by (more ++ past)) h)
   where
@@ -135,6 +137,7 @@ pub record Moment (left right : End) (from before later : Past) (n : ℕ) : Type
   pub link_after : IsLink left right server later
   pub hands_after : HandsReceived right later
 
+-- when a packet was taken, both pasts as they stood then
 abbrev pub MomentAt : (left right : End) (from : Past) → Past → Deed → Type 0
 MomentAt left right from before (Took n es ds) = Moment left right from before (Took n es ds ∷ before) n
 MomentAt left right from before (Ticked t s) = Unit {0}
@@ -143,6 +146,7 @@ MomentAt left right from before (Waits m) = Unit {0}
 MomentAt left right from before (Sent n t items) = Unit {0}
 MomentAt left right from before (Ended g) = Unit {0}
 
+-- a moment for each packet that was taken
 abbrev pub Moments : (left right : End) (from to : Past) → Type 0
 Moments left right from to = EachDeed (MomentAt left right from) to
 

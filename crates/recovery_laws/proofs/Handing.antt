@@ -20,6 +20,7 @@ is_from ch d = (d.channel == ch) && d.reliable
 abbrev pub from_index : ℕ → List Delivered → List Delivered
 from_index ch ds = filter (is_from ch) ds
 
+-- the payloads of an index, over two lists
 pub from_append : (ch : ℕ) (xs ys : List Delivered) → from_index ch (xs ++ ys) ≡ from_index ch xs ++ from_index ch ys
 from_append ch [] ys = refl
 from_append ch (d ∷ xs) ys = by (is_from ch d) (from_append ch xs ys)
@@ -48,6 +49,7 @@ pub record Trail (from to : Past) (ch : ℕ) : Type 0 where
   pub split : on_index ch from ≡ ahead ++ done
   pub same : map (λ (d : Delivered). d.message) (from_index ch (delivered_of to)) ≡ map (λ (x : Numbered). x.1) done
 
+-- what was handed on from an index is the newest first of what was made
 pub trail : (from to : Past) (ch : ℕ) → HandsOn from to ch → Trail from to ch
 trail from to ch h = record {
   ahead = reverse h.later;
@@ -58,6 +60,7 @@ trail from to ch h = record {
       ∙ sym (map_reversed (λ (x : Numbered). x.1) h.done);
 }
 
+-- the payloads of the trail are those handed on, turned round
 pub trail_done : (from to : Past) (ch : ℕ) (h : HandsOn from to ch) → (trail from to ch h).done ≡ reverse h.done
 unfolding trail
 trail_done from to ch h = refl
@@ -89,10 +92,12 @@ mapped_split {A} {B} f (z ∷ zs) (x ∷ xs) ys e =
     same_tail : {A : Type 0} (x y : A) (xs ys : List A) → x ∷ xs ≡ y ∷ ys → xs ≡ ys
     same_tail x y xs ys e = cc
 
+-- what holds of two lists holds of the first
 pub all_first : {A : Type 0} (P : A → Type 0) (xs ys : List A) → AllByRecursion P (xs ++ ys) → AllByRecursion P xs
 all_first P [] ys h = tt
 all_first P (x ∷ xs) ys h = (h.0, all_first P xs ys h.1)
 
+-- and of the second
 pub all_second : {A : Type 0} (P : A → Type 0) (xs ys : List A) → AllByRecursion P (xs ++ ys) → AllByRecursion P ys
 all_second P [] ys h = h
 all_second P (x ∷ xs) ys h = all_second P xs ys h.1
@@ -156,6 +161,7 @@ pub record HandedAt (ch : ℕ) (ds : List Delivered) (count : ℕ) : Type 0 wher
   pub from : is_from ch delivered ≡ true
   pub count_is : length (from_index ch before) ≡ count
 
+-- the payload at a place from the oldest
 pub handed_at : (ch : ℕ) (ds : List Delivered) (count : ℕ) → count < length (from_index ch ds) → HandedAt ch ds count
 handed_at ch [] count lt = absurd (omega (arith, lt))
 handed_at ch (d ∷ ds) count lt = by (is_from ch d) refl lt (λ q. handed_at ch ds count q)
@@ -217,6 +223,7 @@ pub record PlaceOf (from : Past) (ch : ℕ) (m : Message) (count : ℕ) : Type 0
   pub is : m ≡ made.1
   pub count_is : length older ≡ count
 
+-- where a payload stands among those of its index
 pub handed_place : (from to : Past) (ch : ℕ) → Trail from to ch → (after : List Delivered) (d : Delivered) (before : List Delivered) → delivered_of to ≡ after ++ d ∷ before → is_from ch d ≡ true
     → PlaceOf from ch d.message (length (from_index ch before))
 handed_place from to ch t after d before e f =

@@ -136,6 +136,7 @@ relevant_entry table edits player a seen true d e q = sym (same_some (seen_of ta
 relevant_entry table edits player a seen false true e q = absurd (false≢true (ap (λ (s : Seen). s.relevant) (same_some (destroyed_of table edits a) seen e) ∙ q))
 relevant_entry table edits player a seen false false e q = absurd (let never : (let o : Option Seen = None in o) ≡ Some seen = e in cc)
 
+-- an entry that shows the actor relevant shows it as the player sees it
 pub relevant_seen : (table : Table) (edits : Edits) (player : ℕ) (earlier : List ℕ) (i : ℕ) (seen : Seen) → slice_get (sight table edits player earlier) i ≡ Some seen → seen.relevant ≡ true → seen ≡ seen_of table edits player seen.actor
 relevant_seen table edits player earlier i seen e q =
     let r = from (entry_of table edits player earlier) (actors_of edits) i seen e in

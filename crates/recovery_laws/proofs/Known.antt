@@ -77,6 +77,7 @@ stay_handed d (Waits m ∷ past) h = h
 stay_handed d (Sent n t items ∷ past) h = h
 stay_handed d (Ended g ∷ past) h = h
 
+-- what is known to have arrived stays known
 pub arrivals_stay : (end : End) (past : Past) → IsRun end past → StayArrived past
 arrivals_stay end past run = always end StayArrived (λ more k t items before e ch i a. absurd (none more k t items before e)) step past run
   where
@@ -96,6 +97,7 @@ arrivals_stay end past run = always end StayArrived (λ more k t items before e 
 
 -- ---- as many payloads as messages
 
+-- as many payloads as were read
 pub read_lengths : (end : End) (ds : List Delivered) (ws : List (Bunch × List Bool)) → ReadEach end ds ws → length ds ≡ length ws
 read_lengths end [] [] h = refl
 read_lengths end [] (w ∷ ws) h = absurd h

@@ -17,6 +17,7 @@ use Rattle.recovery_laws.specs.Faithful.{items_of, loose_in, handed_loosely}
 
 -- ---- what a message says of a handle
 
+-- the value that a message sets at the actor's handle
 abbrev pub value_said : (actor handle : ℕ) → Message → Option ℤ
 value_said a h m = elim m [
   | Opens exports actor class values ↦ value_for a h actor values
@@ -33,6 +34,7 @@ IsOneOf v o = (o ≡ None) ⊎ (o ≡ Some v)
 
 -- ---- lists
 
+-- a list turned round twice
 pub reversed_twice : {A : Type 0} (xs : List A) → reverse (reverse xs) ≡ xs
 reversed_twice [] = refl
 reversed_twice {A} (x ∷ xs) = ap (λ (l : List A). reverse l) (reverse-append (x ∷ []) xs) ∙ reverse-append (reverse xs) (x ∷ []) ∙ ap (λ (l : List A). x ∷ l) (reversed_twice xs)
@@ -44,6 +46,7 @@ among_reverse {A} x (y ∷ xs) (inr h) = subst (IsIn x) (sym (reverse-append (y 
 
 -- ---- an unreliable item is an update or a call
 
+-- an unreliable message neither opens nor closes
 abbrev pub IsPlain : Message → Type 0
 IsPlain (Opens exports actor class values) = ⊥
 IsPlain (Closes actor sleeps) = ⊥
@@ -51,6 +54,7 @@ IsPlain (Gone actor) = ⊥
 IsPlain (Updates actor class values) = Unit {0}
 IsPlain (Calls actor number call args) = Unit {0}
 
+-- so is that of an item
 abbrev pub PlainItem : Item → Type 0
 PlainItem (Owed number) = Unit {0}
 PlainItem (Carries channel number bunch) = Unit {0}
@@ -69,6 +73,7 @@ plain_each : (end : End) (past : Past) (items : List Item) → AllByRecursion (M
 plain_each end past [] h = tt
 plain_each end past (item ∷ items) h = (plain_item end past item h.0, plain_each end past items h.1)
 
+-- so are those of each packet
 pub items_plain : (end : End) (past : Past) → DeedsFit end past → (k : ℕ) → AllByRecursion PlainItem (items_of past k)
 items_plain end [] fit k = tt
 items_plain end (Ticked t s ∷ past) fit k = items_plain end past fit.1 k
@@ -97,6 +102,7 @@ said_one a h (Gone actor) bunch p = absurd p
 said_one a h (Updates actor class values) bunch p = refl
 said_one a h (Calls actor number call args) bunch p = refl
 
+-- what holds of an item's value holds of its message's
 pub loose_say : (P : Option ℤ → Type 0) (a h : ℕ) (items : List Item) → AllByRecursion PlainItem items → AllByRecursion (λ (item : Item). P (value_in_update a h item)) items
     → AllByRecursion (λ (m : Message). P (value_said a h m)) (filter_map loose_in items)
 loose_say P a h [] plain all = tt
@@ -110,6 +116,7 @@ pub record SaysOne (a h : ℕ) (v : ℤ) (ms : List Message) : Type 0 where
   pub among : IsIn message ms
   pub says : value_said a h message ≡ Some v
 
+-- where one item sets the handle, one message does
 pub loose_one : (a h : ℕ) (v : ℤ) (before : List Item) (item : Item) (after : List Item) → AllByRecursion PlainItem (before ++ item ∷ after) → value_in_update a h item ≡ Some v → SaysOne a h v (filter_map loose_in (before ++ item ∷ after))
 loose_one a h v [] (Owed number) after plain e = absurd (let no : (let o : Option ℤ = None in o) ≡ Some v = e in cc)
 loose_one a h v [] (Carries channel number bunch) after plain e = absurd (let no : (let o : Option ℤ = None in o) ≡ Some v = e in cc)
@@ -133,6 +140,7 @@ handed_if Q (d ∷ ds) h = by d.reliable refl h (λ q. handed_if Q ds q)
 pub handed_all : (Q : Message → Type 0) (ds : List Delivered) (ms : List Message) → reverse (filter_map handed_loosely ds) ≡ ms → AllByRecursion Q ms → AllByRecursion (λ (d : Delivered). d.reliable ≡ false → Q d.message) ds
 handed_all Q ds ms e h = handed_if Q ds (subst (AllByRecursion Q) (ap (λ (l : List Message). reverse l) (sym e) ∙ reversed_twice (filter_map handed_loosely ds)) (all_reverse Q ms h))
 
+-- the message was handed on, and here it stands
 pub record HandedOn (m : Message) (ds : List Delivered) : Type 0 where
   pub delivered : Delivered
   pub among : IsIn delivered ds

@@ -49,6 +49,7 @@ open_behind past a deed m b o = record {
   unmarked = (m, o.unmarked);
 }
 
+-- where an actor is opened, its last mark is an open
 pub open_last : (whole past : Past) (a : ℕ) → is_opened (state_at whole (last_mark past a)) ≡ true → OpenLast past a
 open_last whole [] a h = absurd (false≢true h)
 open_last whole (Ticked t s ∷ past) a h = open_behind past a (Ticked t s) refl refl (open_last whole past a h)
@@ -93,7 +94,7 @@ open_last whole (Made c n m i ∷ past) a h = by ((actor_of m == a) && is_mark m
     by true t q ih = here m t q
 
 -- no open of the actor was made on the index after the last one
-pub index_free : (a ch : ℕ) (past : Past) → AllByRecursion (λ (d : Deed). begins_open a d ≡ false) past → AllByRecursion (λ (x : Numbered). opens_said a x.1 ≡ None) (on_index ch past)
+index_free : (a ch : ℕ) (past : Past) → AllByRecursion (λ (d : Deed). begins_open a d ≡ false) past → AllByRecursion (λ (x : Numbered). opens_said a x.1 ≡ None) (on_index ch past)
 index_free a ch [] h = tt
 index_free a ch (Ticked t s ∷ past) h = index_free a ch past h.1
 index_free a ch (Waits m ∷ past) h = index_free a ch past h.1
@@ -156,6 +157,7 @@ channel_of a channel m = elim m [
   | _ ↦ None
 ]
 
+-- the channel of a copy comes of the payload that opened it last
 pub channel_by : (a ch : ℕ) (ds : List Delivered) → unwrap_or (newest_of (channel_said a) (items_since (removes a) ds)) None ≡ Some ch → ChannelBy a ch ds
 channel_by a ch [] e = absurd (let never : (let o : Option ℕ = None in o) ≡ Some ch = e in cc)
 channel_by a ch (d ∷ ds) e = by (removes a d) refl e (λ q. channel_by a ch ds q)

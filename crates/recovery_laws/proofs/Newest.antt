@@ -15,12 +15,12 @@ use Rattle.recovery_laws.specs.Initial.{IsQuietOf}
 use Rattle.recovery_laws.proofs.Loose.{IsOneOf}
 
 -- nothing is removed in these
-pub since_append : {A : Type 0} (test : A → Bool) (xs ys : List A) → AllByRecursion (λ (x : A). test x ≡ false) xs → items_since test (xs ++ ys) ≡ xs ++ items_since test ys
+since_append : {A : Type 0} (test : A → Bool) (xs ys : List A) → AllByRecursion (λ (x : A). test x ≡ false) xs → items_since test (xs ++ ys) ≡ xs ++ items_since test ys
 since_append test [] ys h = refl
 since_append {A} test (x ∷ xs) ys h = ap (λ (t : Bool). cond t [] (x ∷ items_since test (xs ++ ys))) h.0 ∙ ap (λ (l : List A). x ∷ l) (since_append test xs ys h.1)
 
 -- the newest of those that say anything says this
-pub newest_one : {A B : Type 0} (f : A → Option B) (v : B) (xs ys : List A) → AllByRecursion (λ (x : A). (f x ≡ None) ⊎ (f x ≡ Some v)) xs → (x : A) → IsIn x xs → f x ≡ Some v → newest_of f (xs ++ ys) ≡ Some v
+newest_one : {A B : Type 0} (f : A → Option B) (v : B) (xs ys : List A) → AllByRecursion (λ (x : A). (f x ≡ None) ⊎ (f x ≡ Some v)) xs → (x : A) → IsIn x xs → f x ≡ Some v → newest_of f (xs ++ ys) ≡ Some v
 newest_one f v [] ys all x h e = absurd h
 newest_one f v (z ∷ xs) ys all x (inl q) e = newest_hit f z (xs ++ ys) v (ap f q ∙ e)
 newest_one f v (z ∷ xs) ys all x (inr q) e = elim all.0 [
@@ -28,6 +28,7 @@ newest_one f v (z ∷ xs) ys all x (inr q) e = elim all.0 [
   | inr s ↦ newest_hit f z (xs ++ ys) v s
 ]
 
+-- nothing is found where nothing is said
 pub newest_miss_all : {A B : Type 0} (f : A → Option B) (xs ys : List A) → AllByRecursion (λ (x : A). f x ≡ None) xs → newest_of f (xs ++ ys) ≡ newest_of f ys
 newest_miss_all f [] ys h = refl
 newest_miss_all f (x ∷ xs) ys h = newest_miss f x (xs ++ ys) h.0 ∙ newest_miss_all f xs ys h.1
@@ -41,6 +42,7 @@ value_is past a h v newer older e quiet all d among says =
     ∙ ap (λ (ds : List Delivered). unwrap_or (newest_of (value_applied a h) ds) class_value) (since_append (removes a) newer older quiet)
     ∙ ap (λ (o : Option ℤ). unwrap_or o class_value) (newest_one (value_applied a h) v newer (items_since (removes a) older) all d among says)
 
+-- a quiet payload removes no copy
 pub quiet_stays : (a : ℕ) (ds : List Delivered) → AllByRecursion (IsQuietOf a) ds → AllByRecursion (λ (d : Delivered). removes a d ≡ false) ds
 quiet_stays a [] h = tt
 quiet_stays a (d ∷ ds) h = (h.0.0, quiet_stays a ds h.1)
@@ -49,9 +51,11 @@ quiet_opens : (a : ℕ) (ds : List Delivered) → AllByRecursion (IsQuietOf a) d
 quiet_opens a [] h = tt
 quiet_opens a (d ∷ ds) h = (h.0.1, quiet_opens a ds h.1)
 
+-- the message removes the actor's copy
 abbrev pub removes_said : ℕ → Message → Bool
 removes_said a m = elim m [ Closes actor sleeps ↦ actor == a && not sleeps | Gone actor ↦ actor == a | _ ↦ false ]
 
+-- the class that a message opens the actor with
 abbrev pub opens_said : ℕ → Message → Option Class
 opens_said a m = elim m [ Opens exports actor class values ↦ then_some (actor == a) class | _ ↦ None ]
 

@@ -18,6 +18,7 @@ use Rattle.recovery_laws.proofs.Opening.{IsMade}
 
 -- ---- where a packet stands
 
+-- where packet k was sent, and with which items
 pub record SentAt (past : Past) (k : ℕ) : Type 0 where
   pub later : Past
   pub tick : ℕ
@@ -28,6 +29,7 @@ pub record SentAt (past : Past) (k : ℕ) : Type 0 where
 sent_behind : (past : Past) (k : ℕ) (deed : Deed) → SentAt past k → SentAt (deed ∷ past) k
 sent_behind past k deed s = record { later = deed ∷ s.later; tick = s.tick; items = s.items; earlier = s.earlier; split = ap (λ (l : Past). deed ∷ l) s.split }
 
+-- each packet up to the last one was sent
 pub sent_at : (end : End) (past : Past) → DeedsFit end past → (k : ℕ) → 1 ≤ k → k ≤ last_sent past → SentAt past k
 sent_at end [] fit k lo hi = absurd (omega (arith, lo, hi))
 sent_at end (Ticked t s ∷ past) fit k lo hi = sent_behind past k (Ticked t s) (sent_at end past fit.1 k lo hi)
@@ -55,7 +57,7 @@ sent_least (Sent n x others ∷ later) k t items earlier = omega (arith, greates
 
 -- ---- the items of a packet
 
-pub items_above : (end : End) (past : Past) → DeedsFit end past → (k : ℕ) → last_sent past < k → items_of past k ≡ []
+items_above : (end : End) (past : Past) → DeedsFit end past → (k : ℕ) → last_sent past < k → items_of past k ≡ []
 items_above end [] fit k lt = refl
 items_above end (Ticked t s ∷ past) fit k lt = items_above end past fit.1 k lt
 items_above end (Made c n m i ∷ past) fit k lt = items_above end past fit.1 k lt
@@ -66,6 +68,7 @@ items_above end (Sent n t items ∷ past) fit k lt =
     let top : last_sent (Sent n t items ∷ past) ≡ max n (last_sent past) = greatest_of-cons n (filter_map sent_in past) in
     ap (λ (b : Bool). cond b items (items_of past k)) (ne_eqb n k (λ e. absurd (omega (arith, e, lt, top)))) ∙ items_above end past fit.1 k (omega (arith, lt, top))
 
+-- the items of a packet are those that it was sent with
 pub items_at : (end : End) (later : Past) (k t : ℕ) (items : List Item) (earlier : Past) → DeedsFit end (later ++ Sent k t items ∷ earlier) → items_of (later ++ Sent k t items ∷ earlier) k ≡ items
 items_at end [] k t items earlier fit = ap (λ (b : Bool). cond b items (items_of earlier k)) (eq-eqb k k refl)
 items_at end (Ticked x s ∷ later) k t items earlier fit = items_at end later k t items earlier fit.1
@@ -79,6 +82,7 @@ items_at end (Sent n x others ∷ later) k t items earlier fit =
 
 -- ---- what holds of the packets of some deeds
 
+-- what holds of the items of a deed that sends
 abbrev pub SentHas : (List Item → Type 0) → Deed → Type 0
 SentHas P (Sent n t items) = P items
 SentHas P (Ticked t s) = Unit {0}
@@ -106,6 +110,7 @@ items_after P nil end (Sent x y others ∷ later) k t items earlier fit all n lt
 
 -- ---- what was made when a packet was sent
 
+-- how many bunches of the channel were made when packet k was sent
 abbrev pub made_before : Past → (k ch : ℕ) → ℕ
 made_before [] k ch = 0
 made_before (Sent n t items ∷ past) k ch = if n == k then made_count past ch else made_before past k ch
@@ -121,7 +126,7 @@ count_grows c n m i past ch = elim (cases_eq c ch) [
   | inr e ↦ omega (arith, made_count_other ch c n m i past e)
 ]
 
-pub made_before_most : (past : Past) (k ch : ℕ) → made_before past k ch ≤ made_count past ch
+made_before_most : (past : Past) (k ch : ℕ) → made_before past k ch ≤ made_count past ch
 made_before_most [] k ch = omega arith
 made_before_most (Ticked t s ∷ past) k ch = made_before_most past k ch
 made_before_most (Made c n m i ∷ past) k ch = omega (arith, made_before_most past k ch, count_grows c n m i past ch)
@@ -134,6 +139,7 @@ made_before_most (Sent n t items ∷ past) k ch = by (n == k) (made_before_most 
     by true h = omega arith
     by false h = h
 
+-- that is their count in the past below the sending
 pub made_before_at : (end : End) (later : Past) (k t : ℕ) (items : List Item) (earlier : Past) → DeedsFit end (later ++ Sent k t items ∷ earlier) → (ch : ℕ) → made_before (later ++ Sent k t items ∷ earlier) k ch ≡ made_count earlier ch
 made_before_at end [] k t items earlier fit ch = ap (λ (b : Bool). cond b (made_count earlier ch) (made_before earlier k ch)) (eq-eqb k k refl)
 made_before_at end (Ticked x s ∷ later) k t items earlier fit ch = made_before_at end later k t items earlier fit.1 ch
@@ -187,6 +193,7 @@ fit_behind : (end : End) (later past : Past) → DeedsFit end (later ++ past) �
 fit_behind end [] past fit = fit
 fit_behind end (deed ∷ later) past fit = fit_behind end later past fit.1
 
+-- a bunch that a packet carries was made before it was sent
 pub made_when_carried : (v : Version) (end : End) (past : Past) → DeedsFit end past → (ch n j k : ℕ) (b : Bunch) → IsIn (SaysItem (Carries ch n b)) (said_by v past j) → j ≤ k → 1 ≤ k → k ≤ last_sent past → n ≤ made_before past k ch
 made_when_carried v end past fit ch n j k b h le lo hi = by (sent_at end past fit k lo hi)
   where

@@ -44,7 +44,7 @@ ends_by_parts xs ys us vs e le = elim (cases_lt (length vs) (length ys)) [
 -- ---- what was handed on of an index
 
 -- each message of the index up to this number was
-abbrev pub UpTo : (server client : Past) → (ch num : ℕ) → Type 0
+abbrev UpTo : (server client : Past) → (ch num : ℕ) → Type 0
 UpTo server client ch num = (newer : List Numbered) (x : Numbered) (older : List Numbered) → on_index ch server ≡ newer ++ x ∷ older → x.0 ≤ num → length older < length (from_index ch (delivered_of client))
 
 up_to : (end right : End) (server client : Past) → IsRun end server → HandsReceived right client → (ch : ℕ) (made : Numbered) → IsReceived server client ch made → UpTo server client ch made.0

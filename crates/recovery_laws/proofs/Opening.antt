@@ -23,6 +23,7 @@ pub record FoundIn {A B : Type 0} (f : A → Option B) (xs : List A) (y : B) : T
   pub gives : f item ≡ Some y
   pub none : AllByRecursion (λ (x : A). f x ≡ None) before
 
+-- what is found, and where
 pub newest_found : {A B : Type 0} (f : A → Option B) (xs : List A) (y : B) → newest_of f xs ≡ Some y → FoundIn f xs y
 newest_found {A} {B} f [] y e = absurd (let no : (let o : Option B = None in o) ≡ Some y = e in cc)
 newest_found {A} {B} f (x ∷ xs) y e = by (f x) refl e (λ q. newest_found f xs y q)
@@ -31,6 +32,7 @@ newest_found {A} {B} f (x ∷ xs) y e = by (f x) refl e (λ q. newest_found f xs
     by None q e ih = (let r = ih e in record { before = x ∷ r.before; item = r.item; after = r.after; split = ap (λ (l : List A). x ∷ l) r.split; gives = r.gives; none = (q, r.none) })
     by (Some z) q e ih = record { before = []; item = x; after = xs; split = refl; gives = q ∙ e; none = tt }
 
+-- where nothing is found, nothing is said
 pub newest_none : {A B : Type 0} (f : A → Option B) (xs : List A) → newest_of f xs ≡ None → AllByRecursion (λ (x : A). f x ≡ None) xs
 newest_none f [] e = tt
 newest_none {A} {B} f (x ∷ xs) e = by (f x) refl e (λ q. newest_none f xs q)
@@ -58,6 +60,7 @@ pub record OpenedAt (past : Past) (a : ℕ) : Type 0 where
   pub split : past ≡ newer ++ Made channel number (Opens exports a class values) 0 ∷ older
   pub none : AllByRecursion (λ (d : Deed). begins_open a d ≡ false) newer
 
+-- the deed makes a message
 abbrev pub IsMade : Deed → Type 0
 IsMade (Made channel number message i) = Unit {0}
 IsMade (Ticked t s) = ⊥

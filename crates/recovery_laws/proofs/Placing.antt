@@ -14,6 +14,7 @@ use Rattle.connection_laws.proofs.Deeds.{always}
 use Rattle.connection_laws.proofs.Spans.{some_parts}
 use Rattle.connection_laws.proofs.PacketsSay.{IsIn}
 
+-- the deed makes a message in its place
 abbrev pub DeedPlaced : End → Past → Deed → Type 0
 DeedPlaced end past (Made ch n m i) = i ≡ 0 → HasPlace end past ch m
 DeedPlaced end past (Ticked t s) = Unit {0}
@@ -22,6 +23,7 @@ DeedPlaced end past (Sent n t items) = Unit {0}
 DeedPlaced end past (Took n es ds) = Unit {0}
 DeedPlaced end past (Ended g) = Unit {0}
 
+-- so does each
 abbrev pub EachPlaced : End → Past → Type 0
 EachPlaced end past = EachDeed (DeedPlaced end) past
 
@@ -42,6 +44,7 @@ making_placed end past c m may h =
     placed_end end past (parts_of m) (after_making past c m) (some_parts m)
     (making_keeps (PlacedUpTo end past) past c m (refl, h) (λ i before lt p. placed_step end past c m may.place i before p))
 
+-- each deed of a run does
 pub each_placed : (end : End) (past : Past) → IsRun end past → EachPlaced end past
 each_placed end past run = always end (EachPlaced end) tt step past run
   where
@@ -64,6 +67,7 @@ pub record MadeIn (past : Past) (ch : ℕ) (made : Numbered) : Type 0 where
 made_behind : (past : Past) (ch : ℕ) (made : Numbered) (deed : Deed) → MadeIn past ch made → MadeIn (deed ∷ past) ch made
 made_behind past ch made deed m = record { newer = deed ∷ m.newer; older = m.older; split = ap (λ (l : Past). deed ∷ l) m.split }
 
+-- a message among those of an index was made, and here
 pub made_in : (past : Past) (ch : ℕ) (made : Numbered) → IsIn made (on_index ch past) → MadeIn past ch made
 made_in [] ch made h = absurd h
 made_in (Ticked t s ∷ past) ch made h = made_behind past ch made (Ticked t s) (made_in past ch made h)

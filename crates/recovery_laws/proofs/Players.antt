@@ -48,6 +48,7 @@ talks_faithfully entries lines p is ok joined honest =
       faithful = record { unbroken = applies.unbroken; follows = agree.follower.follows; loose = applies.loose };
     }
 
+-- each settled actor's copy is as the player sees the actor
 pub copies_settled : (entries : List Entry) (lines : List Line) (p : Player) → IsTable entries → AreAccepted (table_of entries) (story_of (table_of entries) lines).0.edits → HasJoined (story_of (table_of entries) lines).0 p → IsHonest lines p.number
     → CopiesSettled (table_of entries) (story_of (table_of entries) lines).0 p
 copies_settled entries lines p is ok joined honest = settled_copied (table_of entries) (story_of (table_of entries) lines).0 p (segments_of entries) (talks_faithfully entries lines p is ok joined honest)
@@ -82,6 +83,7 @@ module _ (entries : List Entry) (lines : List Line) (p : Player) (is : IsTable e
 pub read_holds : (table : Table) (lines : List Line) → AreRead table lines → Holds table lines
 read_holds table lines r = (let s : Stands table lines = stands table lines r in subst (λ (x : Table). Holds x lines) (sym s.same) (holds s.entries lines s.is s.ok))
 
+-- over accepted scripts sleeping actors are copied asleep
 pub read_sleep : (table : Table) (lines : List Line) → AreRead table lines → (p : Player) → HasJoined (story_of table lines).0 p → IsHonest lines p.number → CopiesSleeping table p
 read_sleep table lines r p joined honest =
     let s : Stands table lines = stands table lines r in

@@ -42,6 +42,7 @@ split_at pair [] c = absurd (omega (arith, c.1))
 split_at pair (p ∷ pairs) (zero, lt, e) = ([], pairs, ap (λ (x : Pair). x ∷ pairs) e)
 split_at pair (p ∷ pairs) (suc k, lt, e) = (let r = split_at pair pairs (k, omega (arith, lt), e) in (p ∷ r.0, r.1, ap (λ (l : List Pair). p ∷ l) r.2))
 
+-- a copy that sleeps as seen sleeps as promised
 pub as_promised : (end : End) (server client : Past) (a : ℕ) → DeedsFit end server → SleepsAsSeen server client a → IsCopiedAsleep server client a
 as_promised end server client a fit s = by (copy_class client a) refl s.has
   where

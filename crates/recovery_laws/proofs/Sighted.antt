@@ -24,7 +24,7 @@ use Rattle.recovery_laws.specs.Faithful.{items_of}
 use Rattle.recovery_laws.proofs.Carried.{SameValues}
 
 -- the pairs have the values of a world
-abbrev pub ArePairsOf : (ℕ → ℕ → ℤ) → (actor : ℕ) → List Pair → Type 0
+abbrev ArePairsOf : (ℕ → ℕ → ℤ) → (actor : ℕ) → List Pair → Type 0
 ArePairsOf world a pairs = AllByRecursion (λ (p : Pair). p.value ≡ world a p.handle) pairs
 
 -- ---- a sight
@@ -40,7 +40,7 @@ entry_values table edits player a seen true d e =
 entry_values table edits player a seen false true e = subst (λ (s : Seen). ArePairsOf (seen_value table edits player) s.actor s.values) (same_some (destroyed_of table edits a) seen e) tt
 entry_values table edits player a seen false false e = absurd (let never : (let o : Option Seen = None in o) ≡ Some seen = e in cc)
 
-pub sight_values : (table : Table) (edits : Edits) (player : ℕ) (earlier : List ℕ) (i : ℕ) (seen : Seen) → slice_get (sight table edits player earlier) i ≡ Some seen → ArePairsOf (seen_value table edits player) seen.actor seen.values
+sight_values : (table : Table) (edits : Edits) (player : ℕ) (earlier : List ℕ) (i : ℕ) (seen : Seen) → slice_get (sight table edits player earlier) i ≡ Some seen → ArePairsOf (seen_value table edits player) seen.actor seen.values
 sight_values table edits player earlier i seen e =
     let r = from (entry_of table edits player earlier) (actors_of edits) i seen e in
     entry_values table edits player r.item seen (is_relevant table edits player r.item) (not (lives edits r.item) && is_among r.item earlier) r.gives
@@ -55,6 +55,7 @@ pub record SightOf (table : Table) (player : ℕ) (edits : Edits) (shown : List 
   pub grown : edits ≡ more ++ before
   pub is : shown ≡ sight table before player earlier
 
+-- what was seen before was of a world that has grown since
 pub seeing_behind : (table : Table) (player : ℕ) (edits : Edits) (xs ys : List (List Seen)) → Seeing table player edits (xs ++ ys) → (more before : Edits) × (edits ≡ more ++ before) × Seeing table player before ys
 seeing_behind table player edits [] ys h = ([], edits, refl, h)
 seeing_behind table player edits (x ∷ xs) ys h =
@@ -73,12 +74,12 @@ seen_at table player edits later past h i seen e =
 
 -- ---- updates
 
-pub all_taken : {A : Type 0} (P : A → Type 0) (n : ℕ) (xs : List A) → AllByRecursion P xs → AllByRecursion P (take n xs)
+all_taken : {A : Type 0} (P : A → Type 0) (n : ℕ) (xs : List A) → AllByRecursion P xs → AllByRecursion P (take n xs)
 all_taken P zero xs h = tt
 all_taken P (suc n) [] h = tt
 all_taken P (suc n) (x ∷ xs) h = (h.0, all_taken P n xs h.1)
 
-pub all_in_prefix : {A : Type 0} (P : A → Type 0) (test : List A → Bool) (most : ℕ) (xs : List A) → AllByRecursion P xs → AllByRecursion P (longest_prefix test most xs)
+all_in_prefix : {A : Type 0} (P : A → Type 0) (test : List A → Bool) (most : ℕ) (xs : List A) → AllByRecursion P xs → AllByRecursion P (longest_prefix test most xs)
 all_in_prefix P test zero xs h = tt
 all_in_prefix P test (suc most) xs h = cond_both (test (take (suc most) xs)) (take (suc most) xs) (longest_prefix test most xs) (AllByRecursion P) (λ e. all_taken P (suc most) xs h) (λ e. all_in_prefix P test most xs h)
 
@@ -103,6 +104,7 @@ value_of_pairs world a h v (p ∷ pairs) all e = by (p.handle == h) refl e (λ q
 abbrev ItemOf : (ℕ → ℕ → ℤ) → Item → Type 0
 ItemOf world item = (a h : ℕ) (v : ℤ) → value_in_update a h item ≡ Some v → v ≡ world a h
 
+-- an update has its sight's actor and the due pairs
 pub update_values : (actor : ℕ) (class : Class) (values : List Pair) (seen : Seen) (pairs : List Pair) → Updates actor class values ≡ update_message seen pairs → (actor ≡ seen.actor) × (values ≡ pairs)
 update_values actor class values seen pairs e = ((let q : actor ≡ seen.actor = cc in q), (let q : values ≡ pairs = cc in q))
 

@@ -23,6 +23,7 @@ use Rattle.connection_laws.proofs.PacketsSay.{IsIn, all_at}
 
 -- ---- the last mark is a dormant close
 
+-- the actor's last mark is a dormant close, and here
 pub record SleepLast (whole past : Past) (a : ℕ) : Type 0 where
   pub channel : ℕ
   pub number : ℕ
@@ -45,6 +46,7 @@ sleep_behind whole past a deed m o = record {
   arrived = o.arrived;
 }
 
+-- where an actor sleeps, it is so
 pub sleep_last : (whole past : Past) (a : ℕ) → is_asleep (state_at whole (last_mark past a)) ≡ true → SleepLast whole past a
 sleep_last whole [] a h = absurd (false≢true h)
 sleep_last whole (Ticked t s ∷ past) a h = sleep_behind whole past a (Ticked t s) refl (sleep_last whole past a h)
@@ -95,7 +97,7 @@ sleep_last whole (Made c n m i ∷ past) a h = by ((actor_of m == a) && is_mark 
 
 -- ---- an unmarked deed begins no open
 
-pub unmarked_free : (a : ℕ) (deed : Deed) → mark_in a deed ≡ None → begins_open a deed ≡ false
+unmarked_free : (a : ℕ) (deed : Deed) → mark_in a deed ≡ None → begins_open a deed ≡ false
 unmarked_free a (Ticked t s) e = refl
 unmarked_free a (Waits m) e = refl
 unmarked_free a (Sent n t items) e = refl
@@ -112,6 +114,7 @@ unmarked_free a (Made c n (Opens es b k vs) i) e = by (b == a) (i == 0) e
     by true false e = refl
     by false y e = refl
 
+-- without marks of the actor there is no open of it
 pub all_free : (a : ℕ) (past : Past) → AllByRecursion (λ (d : Deed). mark_in a d ≡ None) past → AllByRecursion (λ (d : Deed). begins_open a d ≡ false) past
 all_free a [] h = tt
 all_free a (d ∷ past) h = (unmarked_free a d h.0, all_free a past h.1)
@@ -225,6 +228,7 @@ moved_after [] more k h = h
 moved_after (e ∷ es) more k h =
     among_right (filter_map (number_above (greatest_of (moved_by (es ++ more)))) (named_by e (greatest_of (moved_by (es ++ more))))) (moved_by (es ++ more)) k (moved_after es more k h)
 
+-- a packet that arrived stays arrived
 pub moved_stays : (newer past : Past) (k : ℕ) → is_among k (moved_of past) ≡ true → is_among k (moved_of (newer ++ past)) ≡ true
 moved_stays [] past k h = h
 moved_stays (Ticked t s ∷ newer) past k h = moved_stays newer past k h

@@ -35,6 +35,7 @@ use Rattle.recovery_laws.proofs.Handing.{from_index}
 
 -- ---- where a packet was taken
 
+-- where packet k was taken
 pub record TookAt (past : Past) (k : ℕ) : Type 0 where
   pub later : Past
   pub entries : List Entry
@@ -45,6 +46,7 @@ pub record TookAt (past : Past) (k : ℕ) : Type 0 where
 took_behind : (past : Past) (k : ℕ) (deed : Deed) → TookAt past k → TookAt (deed ∷ past) k
 took_behind past k deed t = record { later = deed ∷ t.later; entries = t.entries; handed = t.handed; before = t.before; split = ap (λ (l : Past). deed ∷ l) t.split }
 
+-- each packet taken was taken somewhere
 pub took_at : (past : Past) (k : ℕ) → is_among k (taken_of past) ≡ true → TookAt past k
 took_at [] k h = absurd (false≢true h)
 took_at (Ticked t s ∷ past) k h = took_behind past k (Ticked t s) (took_at past k h)
@@ -83,9 +85,11 @@ later_packets Q end from k each (Took n xs zs ∷ later) es ds before fit loose 
 
 -- ---- how many were handed on
 
+-- of each index as many payloads were handed on as were received whole
 pub handed_count : (end : End) (past : Past) (ch : ℕ) → HandsReceived end past → length (from_index ch (delivered_of past)) ≡ length (wholes_of past ch)
 handed_count end past ch h = sym (length-reverse (from_index ch (delivered_of past))) ∙ read_lengths end (handed_reliably past ch) (wholes_of past ch) (h ch)
 
+-- the messages of an index, over two pasts
 pub index_append : (ch : ℕ) (more past : Past) → on_index ch (more ++ past) ≡ on_index ch more ++ on_index ch past
 index_append ch more past = filter_map-append (numbered_in ch) more past
 
@@ -123,6 +127,7 @@ opened_by : (t : Bool) → is_opened (cond t Opened Opening) ≡ true → t ≡ 
 opened_by true e = refl
 opened_by false e = absurd (false≢true e)
 
+-- where an actor is opened, its open is the last mark
 pub opened_mark : (whole : Past) (a : ℕ) (newer : Past) (ch n : ℕ) (exports : List Segment) (class : Class) (values : List Pair) (older : Past) → AllByRecursion (λ (d : Deed). begins_open a d ≡ false) newer
     → is_opened (state_at whole (last_mark (newer ++ Made ch n (Opens exports a class values) 0 ∷ older) a)) ≡ true → have_arrived whole ch n (parts_of (Opens exports a class values)) ≡ true
 opened_mark whole a [] ch n exports class values older none h =
@@ -154,7 +159,7 @@ opened_mark whole a (Ended g ∷ newer) ch n exports class values older none h =
 
 -- ---- places of packets are one
 
-pub sent_once : (end : End) (k : ℕ) (xs : Past) (t : ℕ) (items : List Item) (ys us : Past) (u : ℕ) (others : List Item) (vs : Past) → DeedsFit end (xs ++ Sent k t items ∷ ys) → xs ++ Sent k t items ∷ ys ≡ us ++ Sent k u others ∷ vs
+sent_once : (end : End) (k : ℕ) (xs : Past) (t : ℕ) (items : List Item) (ys us : Past) (u : ℕ) (others : List Item) (vs : Past) → DeedsFit end (xs ++ Sent k t items ∷ ys) → xs ++ Sent k t items ∷ ys ≡ us ++ Sent k u others ∷ vs
     → (ys ≡ vs) × (items ≡ others)
 sent_once end k [] t items ys [] u others vs fit e = ((let q : ys ≡ vs = cc in q), (let q : items ≡ others = cc in q))
 sent_once end k [] t items ys (x ∷ us) u others vs fit e =
