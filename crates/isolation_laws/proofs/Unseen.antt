@@ -13,6 +13,7 @@ use Rattle.connection_model.specs.Feed.{Event, Tick, Got, Call}
 use Rattle.replication_model.specs.Story.{Player, Story, end_of, feed_of, relevant_in, earlier_of, after_line, story_of}
 use Rattle.payload_laws.proofs.WorldValues.{same_some}
 use Rattle.headline_laws.specs.Sights.{Seeing}
+use Rattle.headline_laws.proofs.Sights.{shown_by}
 use Rattle.headline_laws.proofs.StorySights.{player_shown}
 use Rattle.isolation_laws.specs.Unseen.{edit_in, edits_of, holds_along, holds_from, holds_always, is_irrelevant, is_owner_only, has_cond, hides_value, is_out_of_sight, is_of_other, is_unseen}
 use Rattle.isolation_laws.specs.Isolation.{asks, AskingChangesNothing, FeedsStayEqual}
