@@ -9,8 +9,8 @@ use Rattle.connection_model.specs.Past.{past_of, out_of}
 use Rattle.replication_model.specs.Story.{numbered_from, sent_reports, stalled_report, story_of}
 use Rattle.connection_laws.proofs.SentStays.{sends_more, got_sends, call_sends}
 use Rattle.isolation_laws.specs.Isolation.{sent_to, numbered, SendsOut, heard_by}
-use Rattle.isolation_laws.proofs.Mine.{mine}
-use Rattle.isolation_laws.proofs.Sends.{shown_of, sends_of, stalled_none, sent_by_feed, as_heard, heard_sends}
+use Rattle.isolation_laws.proofs.OnePlayer.{mine}
+use Rattle.isolation_laws.proofs.SentByFeed.{shown_of, sends_of, stalled_none, sent_by_feed, as_heard, heard_sends}
 
 numbered_append : (k : ℕ) (xs ys : List (List ℕ)) → numbered k (xs ++ ys) ≡ numbered k xs ++ numbered (length xs + k) ys
 numbered_append k [] ys = let e : k ≡ 0 + k = omega arith in ap (λ n. numbered n ys) e

@@ -21,14 +21,14 @@ use Rattle.headline_laws.proofs.ReadLines.{Stands, stands}
 use Rattle.connection_laws.proofs.Deeds.{deeds_fit}
 use Rattle.connection_laws.proofs.Feeds.{feed_runs}
 use Rattle.recovery_laws.specs.Asleep.{CopiesSleeping, SleepsAsSeen}
-use Rattle.recovery_laws.proofs.Promised.{as_promised}
+use Rattle.recovery_laws.proofs.PromisedSleep.{as_promised}
 use Rattle.headline_laws.proofs.StorySights.{player_shown}
 use Rattle.recovery_laws.specs.Faithful.{IsFaithfulTalk}
-use Rattle.recovery_laws.proofs.Applying.{applies_talk}
+use Rattle.recovery_laws.proofs.AppliesAll.{applies_talk}
 use Rattle.recovery_laws.specs.Initial.{IsInitial, LastOpen}
-use Rattle.recovery_laws.proofs.Copied.{settled_copied}
-use Rattle.recovery_laws.proofs.Sleeping.{sleeps_as_seen}
-use Rattle.recovery_laws.proofs.Started.{last_open, initial_value}
+use Rattle.recovery_laws.proofs.SettledCopies.{settled_copied}
+use Rattle.recovery_laws.proofs.SleepingCopies.{sleeps_as_seen}
+use Rattle.recovery_laws.proofs.OpenedLast.{last_open, initial_value}
 
 -- they talk, and the client is faithful
 pub talks_faithfully : (entries : List Entry) (lines : List Line) (p : Player) → IsTable entries → AreAccepted (table_of entries) (story_of (table_of entries) lines).0.edits → HasJoined (story_of (table_of entries) lines).0 p → IsHonest lines p.number

@@ -14,7 +14,7 @@ use Rattle.connection_laws.specs.Link.{SaysItem, all_said, said_by}
 use Rattle.connection_laws.proofs.Counts.{made_count_same, made_count_other}
 use Rattle.connection_laws.proofs.PacketsSay.{IsIn, carried_facts}
 use Rattle.recovery_laws.specs.Faithful.{items_of}
-use Rattle.recovery_laws.proofs.Opening.{IsMade}
+use Rattle.recovery_laws.proofs.FoundOpens.{IsMade}
 
 -- ---- where a packet stands
 

@@ -28,8 +28,8 @@ use Rattle.headline_laws.specs.Sights.{sight_in, sights_of, Seeing}
 use Rattle.headline_laws.proofs.Sights.{seeing_later, shown_by_last}
 use Rattle.recovery_laws.specs.Faithful.{items_of}
 use Rattle.recovery_laws.specs.Initial.{IsInitial}
-use Rattle.recovery_laws.proofs.Carried.{SaysNothing}
-use Rattle.recovery_laws.proofs.Sighted.{seeing_behind, update_all, update_values}
+use Rattle.recovery_laws.proofs.CarriedValues.{SaysNothing}
+use Rattle.recovery_laws.proofs.SightsAgree.{seeing_behind, update_all, update_values}
 
 -- ---- no update has an initial-only handle
 

@@ -17,9 +17,9 @@ use Rattle.headline_laws.proofs.Sights.{shown_by}
 use Rattle.headline_laws.proofs.StorySights.{player_shown}
 use Rattle.isolation_laws.specs.Unseen.{edit_in, edits_of, holds_along, holds_from, holds_always, is_irrelevant, is_owner_only, has_cond, hides_value, is_out_of_sight, is_of_other, is_unseen}
 use Rattle.isolation_laws.specs.Isolation.{asks, AskingChangesNothing, FeedsStayEqual}
-use Rattle.isolation_laws.proofs.Mine.{mine, mine_one, mine_other, found_number, other_line}
-use Rattle.isolation_laws.proofs.Unshown.{edit_unseen, destroy_unseen, value_unseen, owners_hidden, custom_hidden}
-use Rattle.isolation_laws.proofs.Follows.{with_edit, one_more, story_edits, story_more, Along, along, first_along, found_in, Course, follow, same_course, Blinds, edit_course}
+use Rattle.isolation_laws.proofs.OnePlayer.{mine, mine_one, mine_other, found_number, other_line}
+use Rattle.isolation_laws.proofs.UnshownEdits.{edit_unseen, destroy_unseen, value_unseen, owners_hidden, custom_hidden}
+use Rattle.isolation_laws.proofs.AlongLines.{with_edit, one_more, story_edits, story_more, Along, along, first_along, found_in, Course, follow, same_course, Blinds, edit_course}
 
 -- ---- worlds in which an actor is never relevant
 

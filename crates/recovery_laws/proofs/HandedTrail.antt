@@ -10,7 +10,7 @@ use Rattle.connection_laws.specs.Delivered.{on_index, Numbered}
 use Rattle.connection_laws.proofs.PacketsSay.{IsIn}
 use Rattle.headline_laws.specs.Follows.{HandsOn}
 use Rattle.headline_laws.proofs.WholeMessages.{longer}
-use Rattle.recovery_laws.proofs.Loose.{reversed_twice}
+use Rattle.recovery_laws.proofs.LooseValues.{reversed_twice}
 
 -- a reliable payload of the channel
 abbrev pub is_from : ℕ → Delivered → Bool

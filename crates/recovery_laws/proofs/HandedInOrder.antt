@@ -27,11 +27,11 @@ use Rattle.headline_laws.specs.Whole.{ArrivedBelow}
 use Rattle.headline_laws.proofs.ReceivedFirst.{arrived_each, open_arrived}
 use Rattle.recovery_laws.specs.Faithful.{AppliesPacket, AppliesLoose}
 use Rattle.headline_laws.proofs.CameInPackets.{came, CameIn}
-use Rattle.recovery_laws.proofs.Grows.{Moment}
-use Rattle.recovery_laws.proofs.Known.{arrivals_stay, read_lengths, received_count, first_received}
-use Rattle.recovery_laws.proofs.Opening.{begins_open, OpenedAt}
-use Rattle.recovery_laws.proofs.Numbered.{SentAt, sent_at, sent_least, made_before, made_before_at, made_when_carried}
-use Rattle.recovery_laws.proofs.Handing.{from_index}
+use Rattle.recovery_laws.proofs.Moments.{Moment}
+use Rattle.recovery_laws.proofs.ArrivalsKnown.{arrivals_stay, read_lengths, received_count, first_received}
+use Rattle.recovery_laws.proofs.FoundOpens.{begins_open, OpenedAt}
+use Rattle.recovery_laws.proofs.SentPackets.{SentAt, sent_at, sent_least, made_before, made_before_at, made_when_carried}
+use Rattle.recovery_laws.proofs.HandedTrail.{from_index}
 
 -- ---- where a packet was taken
 

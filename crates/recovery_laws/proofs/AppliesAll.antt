@@ -53,9 +53,9 @@ use Rattle.headline_laws.proofs.NextPasses.{ServerFacts}
 use Rattle.headline_laws.proofs.PacketsSpelled.{end_fits}
 use Rattle.headline_laws.proofs.WholeMessages.{messages_short}
 use Rattle.recovery_laws.specs.Faithful.{items_of, loose_in, loose_of, AppliesPacket, AppliesLoose}
-use Rattle.recovery_laws.proofs.Grows.{Extends, event_extends}
-use Rattle.recovery_laws.proofs.Loose.{reversed_twice}
-use Rattle.recovery_laws.proofs.Numbered.{SentAt, sent_at, items_at}
+use Rattle.recovery_laws.proofs.Moments.{Extends, event_extends}
+use Rattle.recovery_laws.proofs.LooseValues.{reversed_twice}
+use Rattle.recovery_laws.proofs.SentPackets.{SentAt, sent_at, items_at}
 
 -- ---- what a packet said is what it was sent with
 

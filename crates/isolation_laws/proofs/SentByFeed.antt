@@ -21,9 +21,9 @@ use Rattle.connection_laws.proofs.StoriesTalk.{delivered}
 use Rattle.isolation_laws.specs.Unseen.{is_unseen}
 use Rattle.isolation_laws.specs.Isolation.{heard_by, sent_to, sent_lines, joins, joins_once, SendsByFeed, SendsStayEqual, AnswersByFeed, VerdictsByFeed}
 use Rattle.connection_model.specs.CallAnswers.{answer_of}
-use Rattle.isolation_laws.proofs.Skips.{any_skip}
-use Rattle.isolation_laws.proofs.Unseen.{feeds_stay}
-use Rattle.isolation_laws.proofs.Mine.{mine, KeepsNumber, mine_all, mine_one, mine_other, mine_joined, mine_joined_other, found_number, tick_number, deliver_number, deliver_new_number, event_number, ordered, new_for}
+use Rattle.isolation_laws.proofs.SkippedEdits.{any_skip}
+use Rattle.isolation_laws.proofs.UnseenLines.{feeds_stay}
+use Rattle.isolation_laws.proofs.OnePlayer.{mine, KeepsNumber, mine_all, mine_one, mine_other, mine_joined, mine_joined_other, found_number, tick_number, deliver_number, deliver_new_number, event_number, ordered, new_for}
 
 module _ (n : ℕ) where
   abbrev pub Sents : Type 0

@@ -17,12 +17,12 @@ use Rattle.connection_laws.proofs.PacketsSay.{IsIn, in_left, in_right, all_at}
 use Rattle.connection_laws.proofs.Items.{all_append}
 use Rattle.headline_laws.proofs.WholeMessages.{longer}
 use Rattle.recovery_laws.specs.Faithful.{items_of, loose_of, AppliesLoose}
-use Rattle.recovery_laws.proofs.Opening.{begins_open, OpenedAt}
-use Rattle.recovery_laws.proofs.Loose.{IsPlain, items_plain, loose_plain, handed_all}
+use Rattle.recovery_laws.proofs.FoundOpens.{begins_open, OpenedAt}
+use Rattle.recovery_laws.proofs.LooseValues.{IsPlain, items_plain, loose_plain, handed_all}
 use Rattle.recovery_laws.specs.Initial.{IsQuietOf}
-use Rattle.recovery_laws.proofs.Newest.{opens_said}
-use Rattle.recovery_laws.proofs.Taken.{unopened}
-use Rattle.recovery_laws.proofs.Handing.{is_from, from_index, Trail, later_handed, all_first, among_from}
+use Rattle.recovery_laws.proofs.NewestPayloads.{opens_said}
+use Rattle.recovery_laws.proofs.HandedInOrder.{unopened}
+use Rattle.recovery_laws.proofs.HandedTrail.{is_from, from_index, Trail, later_handed, all_first, among_from}
 
 -- ---- at the server
 

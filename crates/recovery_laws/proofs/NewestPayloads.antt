@@ -12,7 +12,7 @@ use Rattle.connection_model.specs.Copies.{delivered_of, removes, class_opened, c
 use Rattle.connection_laws.proofs.Searches.{newest_hit, newest_miss}
 use Rattle.connection_laws.proofs.PacketsSay.{IsIn}
 use Rattle.recovery_laws.specs.Initial.{IsQuietOf}
-use Rattle.recovery_laws.proofs.Loose.{IsOneOf}
+use Rattle.recovery_laws.proofs.LooseValues.{IsOneOf}
 
 -- nothing is removed in these
 since_append : {A : Type 0} (test : A → Bool) (xs ys : List A) → AllByRecursion (λ (x : A). test x ≡ false) xs → items_since test (xs ++ ys) ≡ xs ++ items_since test ys

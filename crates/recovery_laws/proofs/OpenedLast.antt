@@ -25,15 +25,15 @@ use Rattle.payload_laws.specs.Accepted.{AreAccepted}
 use Rattle.headline_laws.specs.Sights.{sights_of, Seeing}
 use Rattle.recovery_laws.specs.Faithful.{items_of, IsFaithfulTalk}
 use Rattle.recovery_laws.specs.Initial.{IsInitial, LastOpen}
-use Rattle.recovery_laws.proofs.Loose.{IsPlain, value_said, IsOneOf, items_plain, loose_say}
-use Rattle.recovery_laws.proofs.Newest.{value_is, class_is, quiet_stays, removes_said}
-use Rattle.recovery_laws.proofs.Handing.{all_handed, all_first, among_from}
-use Rattle.recovery_laws.proofs.Placing.{DeedPlaced, EachPlaced, each_placed, MadeIn, made_in}
-use Rattle.recovery_laws.proofs.Carried.{all_by_among, NoUpdate, reliables, says_one}
-use Rattle.recovery_laws.proofs.Marked.{ChannelBy, channel_by, loosely_all, plainly_handed}
-use Rattle.recovery_laws.proofs.Sighted.{SightOf, seen_at}
-use Rattle.recovery_laws.proofs.Copied.{run, fit, trails}
-use Rattle.recovery_laws.proofs.Initials.{nothing_initial, entry_has, relevant_seen}
+use Rattle.recovery_laws.proofs.LooseValues.{IsPlain, value_said, IsOneOf, items_plain, loose_say}
+use Rattle.recovery_laws.proofs.NewestPayloads.{value_is, class_is, quiet_stays, removes_said}
+use Rattle.recovery_laws.proofs.HandedTrail.{all_handed, all_first, among_from}
+use Rattle.recovery_laws.proofs.MadeInPlace.{DeedPlaced, EachPlaced, each_placed, MadeIn, made_in}
+use Rattle.recovery_laws.proofs.CarriedValues.{all_by_among, NoUpdate, reliables, says_one}
+use Rattle.recovery_laws.proofs.MarksAfterOpen.{ChannelBy, channel_by, loosely_all, plainly_handed}
+use Rattle.recovery_laws.proofs.SightsAgree.{SightOf, seen_at}
+use Rattle.recovery_laws.proofs.SettledCopies.{run, fit, trails}
+use Rattle.recovery_laws.proofs.InitialValues.{nothing_initial, entry_has, relevant_seen}
 
 -- a message that was made on the index
 record IsMadeOn (past : Past) (ch : ℕ) (m : Message) : Type 0 where

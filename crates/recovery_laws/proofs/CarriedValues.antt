@@ -25,14 +25,14 @@ use Rattle.connection_laws.proofs.AcksTaken.{done_taken}
 use Rattle.connection_laws.proofs.LinkedEnds.{Both, both, left_run, right_run}
 use Rattle.headline_laws.proofs.WholeMessages.{longer}
 use Rattle.recovery_laws.specs.Faithful.{items_of, loose_in, loose_of, AppliesPacket, AppliesLoose}
-use Rattle.recovery_laws.proofs.Grows.{Moment, MomentAt, Moments}
-use Rattle.recovery_laws.proofs.Opening.{FoundIn, newest_found, newest_none, begins_open, OpenedAt, Front, front_of}
-use Rattle.recovery_laws.proofs.Numbered.{SentHas, items_at, items_after, items_behind, made_before}
-use Rattle.recovery_laws.proofs.Loose.{value_said, IsOneOf, PlainItem, items_plain, loose_say, loose_one, handed_all, handed_each}
+use Rattle.recovery_laws.proofs.Moments.{Moment, MomentAt, Moments}
+use Rattle.recovery_laws.proofs.FoundOpens.{FoundIn, newest_found, newest_none, begins_open, OpenedAt, Front, front_of}
+use Rattle.recovery_laws.proofs.SentPackets.{SentHas, items_at, items_after, items_behind, made_before}
+use Rattle.recovery_laws.proofs.LooseValues.{value_said, IsOneOf, PlainItem, items_plain, loose_say, loose_one, handed_all, handed_each}
 use Rattle.recovery_laws.specs.Initial.{IsQuietOf}
-use Rattle.recovery_laws.proofs.Newest.{value_is, quiet_stays, removes_said, opens_said}
-use Rattle.recovery_laws.proofs.Handing.{same_end, from_index, from_append, Trail, all_handed, all_first, all_second, among_from, HandedAt, handed_at, handed_is}
-use Rattle.recovery_laws.proofs.Taken.{TookAt, took_at, later_packets, opened_index, open_handed, made_then}
+use Rattle.recovery_laws.proofs.NewestPayloads.{value_is, quiet_stays, removes_said, opens_said}
+use Rattle.recovery_laws.proofs.HandedTrail.{same_end, from_index, from_append, Trail, all_handed, all_first, all_second, among_from, HandedAt, handed_at, handed_is}
+use Rattle.recovery_laws.proofs.HandedInOrder.{TookAt, took_at, later_packets, opened_index, open_handed, made_then}
 
 -- what holds of each item of a list holds of all by recursion
 pub all_by_among : {A : Type 0} (P : A → Type 0) (xs : List A) → ((x : A) → IsIn x xs → P x) → AllByRecursion P xs

@@ -21,7 +21,7 @@ use Rattle.payload_laws.proofs.SightSpelling.{from}
 use Rattle.payload_laws.proofs.WorldValues.{same_some}
 use Rattle.headline_laws.specs.Sights.{sight_in, sights_of, Seeing}
 use Rattle.recovery_laws.specs.Faithful.{items_of}
-use Rattle.recovery_laws.proofs.Carried.{SameValues}
+use Rattle.recovery_laws.proofs.CarriedValues.{SameValues}
 
 -- the pairs have the values of a world
 abbrev ArePairsOf : (ℕ → ℕ → ℤ) → (actor : ℕ) → List Pair → Type 0

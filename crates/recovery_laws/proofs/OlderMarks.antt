@@ -21,8 +21,8 @@ use Rattle.headline_laws.specs.Marks.{marks_of, without_newest, MarkComes, Marks
 use Rattle.headline_laws.proofs.WholeMessages.{InRow, rows, longer}
 use Rattle.headline_laws.proofs.ReceivedFirst.{row_at, parts_append}
 use Rattle.headline_laws.proofs.Reopened.{marks_it}
-use Rattle.recovery_laws.proofs.Handing.{same_end, from_index, all_second}
-use Rattle.recovery_laws.proofs.Taken.{handed_count, index_append}
+use Rattle.recovery_laws.proofs.HandedTrail.{same_end, from_index, all_second}
+use Rattle.recovery_laws.proofs.HandedInOrder.{handed_count, index_append}
 
 -- ---- ends of one list
 

@@ -40,13 +40,13 @@ use Rattle.headline_laws.specs.Follows.{parts_in, HandsOn, HandsOnAll, IsAhead, 
 use Rattle.headline_laws.proofs.WholeMessages.{InRow, rows}
 use Rattle.headline_laws.proofs.ReceivedFirst.{open_arrived, row_at, parts_append, parts_reverse}
 use Rattle.recovery_laws.specs.Faithful.{IsFaithfulTalk}
-use Rattle.recovery_laws.proofs.Grows.{moments}
-use Rattle.recovery_laws.proofs.Known.{received_count}
-use Rattle.recovery_laws.proofs.Handing.{from_index, Trail, trail, trail_done}
-use Rattle.recovery_laws.proofs.Taken.{handed_count, opened_index, end_has, opened_mark}
-use Rattle.recovery_laws.proofs.Carried.{carried}
-use Rattle.recovery_laws.proofs.Marked.{OpenLast, open_last, nothing_fresh}
-use Rattle.recovery_laws.proofs.Sighted.{packets_agree}
+use Rattle.recovery_laws.proofs.Moments.{moments}
+use Rattle.recovery_laws.proofs.ArrivalsKnown.{received_count}
+use Rattle.recovery_laws.proofs.HandedTrail.{from_index, Trail, trail, trail_done}
+use Rattle.recovery_laws.proofs.HandedInOrder.{handed_count, opened_index, end_has, opened_mark}
+use Rattle.recovery_laws.proofs.CarriedValues.{carried}
+use Rattle.recovery_laws.proofs.MarksAfterOpen.{OpenLast, open_last, nothing_fresh}
+use Rattle.recovery_laws.proofs.SightsAgree.{packets_agree}
 
 -- a message that was handed on, with so many handed on before it, has its number among those done
 pub done_long : (end : End) (server client : Past) → IsRun end server → (ch : ℕ) (h : HandsOn server client ch) (newer : List Numbered) (made : Numbered) (older : List Numbered) → on_index ch server ≡ newer ++ made ∷ older

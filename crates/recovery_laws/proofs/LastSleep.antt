@@ -16,9 +16,9 @@ use Rattle.connection_model.specs.Carry.{Carry, carry_in, value_in_update, is_op
 use Rattle.connection_laws.specs.Run.{MaySend}
 use Rattle.connection_laws.specs.Deeds.{DeedsFit}
 use Rattle.connection_laws.proofs.Searches.{newest_miss, among_right}
-use Rattle.recovery_laws.proofs.Opening.{begins_open}
-use Rattle.recovery_laws.proofs.Newest.{newest_miss_all}
-use Rattle.recovery_laws.proofs.Carried.{update_opened}
+use Rattle.recovery_laws.proofs.FoundOpens.{begins_open}
+use Rattle.recovery_laws.proofs.NewestPayloads.{newest_miss_all}
+use Rattle.recovery_laws.proofs.CarriedValues.{update_opened}
 use Rattle.connection_laws.proofs.PacketsSay.{IsIn, all_at}
 
 -- ---- the last mark is a dormant close

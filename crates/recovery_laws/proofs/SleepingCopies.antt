@@ -47,19 +47,19 @@ use Rattle.headline_laws.proofs.Sights.{seeing_later}
 use Rattle.recovery_laws.specs.Faithful.{IsFaithfulTalk}
 use Rattle.recovery_laws.specs.Initial.{IsQuietOf}
 use Rattle.recovery_laws.specs.Asleep.{SleepsAsSeen}
-use Rattle.recovery_laws.proofs.Grows.{Moment, MomentAt, Moments, moments}
-use Rattle.recovery_laws.proofs.Opening.{begins_open, OpenedAt}
-use Rattle.recovery_laws.proofs.Loose.{IsPlain}
-use Rattle.recovery_laws.proofs.Newest.{removes_said, opens_said}
-use Rattle.recovery_laws.proofs.Handing.{same_end, from_index, from_append, Trail, later_handed, all_first, among_from, HandedAt, handed_at, PlaceOf, handed_place}
-use Rattle.recovery_laws.proofs.Taken.{index_append, opened_index, end_has, handed_count}
-use Rattle.recovery_laws.proofs.Placing.{DeedPlaced, EachPlaced, each_placed}
-use Rattle.recovery_laws.proofs.Carried.{all_by_among, carried}
-use Rattle.recovery_laws.proofs.Marked.{OpenLast, open_last, plainly_handed}
-use Rattle.recovery_laws.proofs.Sighted.{seeing_behind, packets_agree}
-use Rattle.recovery_laws.proofs.Copied.{link, run, fit, trails, was_handed, done_long, copy_of_last, all_of_list}
-use Rattle.recovery_laws.proofs.OldMarks.{old_marks}
-use Rattle.recovery_laws.proofs.Slept.{SleepLast, sleep_last, all_free, carry_stays, moved_stays}
+use Rattle.recovery_laws.proofs.Moments.{Moment, MomentAt, Moments, moments}
+use Rattle.recovery_laws.proofs.FoundOpens.{begins_open, OpenedAt}
+use Rattle.recovery_laws.proofs.LooseValues.{IsPlain}
+use Rattle.recovery_laws.proofs.NewestPayloads.{removes_said, opens_said}
+use Rattle.recovery_laws.proofs.HandedTrail.{same_end, from_index, from_append, Trail, later_handed, all_first, among_from, HandedAt, handed_at, PlaceOf, handed_place}
+use Rattle.recovery_laws.proofs.HandedInOrder.{index_append, opened_index, end_has, handed_count}
+use Rattle.recovery_laws.proofs.MadeInPlace.{DeedPlaced, EachPlaced, each_placed}
+use Rattle.recovery_laws.proofs.CarriedValues.{all_by_among, carried}
+use Rattle.recovery_laws.proofs.MarksAfterOpen.{OpenLast, open_last, plainly_handed}
+use Rattle.recovery_laws.proofs.SightsAgree.{seeing_behind, packets_agree}
+use Rattle.recovery_laws.proofs.SettledCopies.{link, run, fit, trails, was_handed, done_long, copy_of_last, all_of_list}
+use Rattle.recovery_laws.proofs.OlderMarks.{old_marks}
+use Rattle.recovery_laws.proofs.LastSleep.{SleepLast, sleep_last, all_free, carry_stays, moved_stays}
 
 -- ---- quiet messages
 
