@@ -21,10 +21,6 @@ neither_right : (x y : Bool) → (x || y) ≡ false → y ≡ false
 neither_right true y h = absurd (cc)
 neither_right false y h = h
 
-is_of : (x : Bool) → not x ≡ false → x ≡ true
-is_of true h = refl
-is_of false h = cc
-
 -- where the second fails the first does
 implied_not : (x y : Bool) → implies x y ≡ true → y ≡ false → x ≡ false
 implied_not true true h e = cc

@@ -51,9 +51,6 @@ is_not b e = rw e refl
 
 -- ---- an open
 
-three : (a b c d : List Bool) → a ++ b ++ c ++ d ≡ a ++ (b ++ (c ++ d))
-three a b c d = simp append_assoc
-
 -- an open is read as it was spelled
 pub open_read : (table : Table) (past : Past) (first : Bunch) (exports : List Segment) (actor : ℕ) (class : Class) (values : List Pair) → first.exports ≡ are_some exports → OpenPasses table past first.channel exports actor (class_guid class) class values
     → open_at table past first (message_bits (Opens exports actor class values)) ≡ Ok (Opens exports actor class values, [])

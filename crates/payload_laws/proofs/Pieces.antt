@@ -124,9 +124,6 @@ part_last count i s h = rw (other_is 1 count (omega (arith, s, h)), other_is 0 i
 
 -- ---- which bunch ends the payload
 
-part_is : (ch n : ℕ) (message : Message) (i : ℕ) (part : Part) → part_at (parts_of message) i ≡ part → (made_bunch ch n message i).part ≡ part
-part_is ch n message i part e = e
-
 ends_as : (b : Bunch) (part : Part) → b.part ≡ part → ends_payload b ≡ elim part [ Whole ↦ true | Last ↦ true | Lone ↦ true | First ↦ false | Middle ↦ false ]
 ends_as b part e = rw e refl
 

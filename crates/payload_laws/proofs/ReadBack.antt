@@ -1,5 +1,5 @@
 -- A payload is read as the message that it spells, at either end.
-use Rattle.std.proofs.Common.{◌≡◌, ℕ, List, [], ◌∷◌, Bool, false, not, ◌||◌, Option, Ok, refl, sym, ap, ◌∙◌}
+use Rattle.std.proofs.Common.{◌≡◌, ℕ, List, [], ◌∷◌, Bool, false, Option, Ok, refl, sym, ap, ◌∙◌}
 use Rattle.protocol_model.specs.declared.Cause.{Cause}
 use Rattle.protocol_model.specs.Side.{Side, AtServer, AtClient}
 use Rattle.protocol_model.specs.Value.{Segment, Class, Call, Arg, Pair}
@@ -17,10 +17,6 @@ use Rattle.payload_laws.proofs.Messages.{open_read, client_call_read, server_cal
 pub some_exports : (exports : List Segment) (actor : ℕ) (class : Class) (values : List Pair) → has_exports (Opens exports actor class values) ≡ are_some exports
 some_exports [] actor class values = refl
 some_exports (s ∷ exports) actor class values = refl
-
--- which of the two it is
-rule : Bunch → Bool → Bool
-rule first is_call = is_call || not first.reliable
 
 plain_call : (past : Past) (first : Bunch) (actor number : ℕ) (call : Call) (args : List Arg) → first.reliable ≡ call.reliable → CallPasses AtClient past actor number call args
     → plain_at past first (message_bits (Calls actor number call args)) ≡ Ok (Calls actor number call args, [])

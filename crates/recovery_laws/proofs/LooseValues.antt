@@ -8,7 +8,7 @@ use Rattle.protocol_model.specs.Payload.{Message, Opens, Closes, Updates, Calls,
 use Rattle.protocol_model.specs.Packet.{Bunch}
 use Rattle.connection_model.specs.Feed.{End, Past, Ticked, Made, Waits, Sent, Took, Ended, Item, Owed, Carries, Loose, Delivered}
 use Rattle.connection_model.specs.Carry.{value_in_update}
-use Rattle.connection_model.specs.Copies.{value_for, value_applied}
+use Rattle.connection_model.specs.Copies.{value_for}
 use Rattle.connection_laws.specs.Run.{MaySend}
 use Rattle.connection_laws.specs.Deeds.{DeedsFit}
 use Rattle.connection_laws.proofs.Items.{all_reverse}
@@ -24,9 +24,6 @@ value_said a h m = elim m [
   | Updates actor class values ↦ value_for a h actor values
   | _ ↦ None
 ]
-
-applied_is_said : (a h : ℕ) (d : Delivered) → value_applied a h d ≡ value_said a h d.message
-applied_is_said a h d = refl
 
 -- nothing, or this value
 abbrev pub IsOneOf : (v : ℤ) → Option ℤ → Type 0
