@@ -63,6 +63,7 @@ mine_other n who does k ne (p ∷ players) = by (p.number == who) refl (mine n (
 abbrev pub ordered : Player → List Player → List Player
 ordered new players = insert_in_order (λ (one : Player) (two : Player). nat_lt one.number two.number) new players
 
+-- a lower number is another
 below_other : (k m n : ℕ) → nat_lt k m ≡ true → m ≡ n → (k == n) ≡ false
 below_other k m n h e = grind (arith, nat_tests)
 
@@ -100,6 +101,7 @@ tick_number table edits AtClient p = refl
 pub deliver_number : (table : Table) (edits : Edits) (side : Side) (k : ℕ) → KeepsNumber (after_delivery table edits side k)
 deliver_number table edits side k p = delivered_number table edits side k p (slice_get (out_at table (other_side side) p) (k - 1))
 
+-- deliveries leave the player's number
 deliveries_number : (table : Table) (edits : Edits) (side : Side) (ks : List ℕ) (told : Reported) → (fold (also_delivery table edits side) told ks).0.number ≡ told.0.number
 deliveries_number table edits side [] told = refl
 deliveries_number table edits side (k ∷ ks) told = deliveries_number table edits side ks (also_delivery table edits side told k) ∙ deliver_number table edits side k told.0
@@ -115,10 +117,12 @@ deliver_new_number table edits side every p =
 
 -- ---- the world decides the sights of ticks alone
 
+-- both cases leave the player alike
 cond_same : (b : Bool) (x y z : Reported) → y.0 ≡ z.0 → (cond b x y).0 ≡ (cond b x z).0
 cond_same true x y z e = refl
 cond_same false x y z e = e
 
+-- a delivery does the same in both worlds
 delivered_same : (table : Table) (one other : Edits) (side : Side) (k : ℕ) (p : Player) (o : Option (List ℕ)) → (delivered table one side k p o).0 ≡ (delivered table other side k p o).0
 delivered_same table one other side k p None = refl
 delivered_same table one other side k p (Some bytes) =
@@ -129,29 +133,35 @@ delivered_same table one other side k p (Some bytes) =
 abbrev DoSame : (does did : Player → Reported) → Type 0
 DoSame does did = (p : Player) → (does p).0 ≡ (did p).0
 
+-- so does a delivery by number
 deliver_same : (table : Table) (one other : Edits) (side : Side) (k : ℕ) → DoSame (after_delivery table one side k) (after_delivery table other side k)
 deliver_same table one other side k p = delivered_same table one other side k p (slice_get (out_at table (other_side side) p) (k - 1))
 
+-- so do several
 deliveries_same : (table : Table) (one other : Edits) (side : Side) (ks : List ℕ) (told tell : Reported) → told.0 ≡ tell.0 → (fold (also_delivery table one side) told ks).0 ≡ (fold (also_delivery table other side) tell ks).0
 deliveries_same table one other side [] told tell e = e
 deliveries_same table one other side (k ∷ ks) told tell e =
     deliveries_same table one other side ks (also_delivery table one side told k) (also_delivery table other side tell k)
     (ap (λ (p : Player). (after_delivery table one side k p).0) e ∙ deliver_same table one other side k tell.0)
 
+-- so do deliveries of what is new
 deliver_new_same : (table : Table) (one other : Edits) (side : Side) (every : ℕ) → DoSame (after_new_deliveries table one side every) (after_new_deliveries table other side every)
 deliver_new_same table one other side every p =
     deliveries_same table one other side (new_for table side every p) (with_told side (length (out_at table (other_side side) p)) p, []) (with_told side (length (out_at table (other_side side) p)) p, []) refl
 
+-- one answer, whichever function gives it
 option_same : {A B : Type 0} (f g : A → B) (o : Option A) → ((x : A) → o ≡ Some x → f x ≡ g x) → option_map f o ≡ option_map g o
 option_same f g None h = refl
 option_same f g (Some x) h = ap Some (h x refl)
 
+-- what does the same to each player leaves the same player
 all_same : (n : ℕ) (does did : Player → Reported) → KeepsNumber does → KeepsNumber did → (players others : List Player) → mine n players ≡ mine n others → ((p : Player) → mine n players ≡ Some p → (does p).0 ≡ (did p).0)
     → mine n (map (λ (p : Player). (does p).0) players) ≡ mine n (map (λ (p : Player). (did p).0) others)
 all_same n does did k l players others e h =
     mine_all n does k players ∙ option_same (λ (p : Player). (does p).0) (λ (p : Player). (did p).0) (mine n players) h
     ∙ ap (option_map (λ (p : Player). (did p).0)) e ∙ sym (mine_all n did l others)
 
+-- so does what is done to one
 one_same : (n who : ℕ) (does did : Player → Reported) → KeepsNumber does → KeepsNumber did → (players others : List Player) → mine n players ≡ mine n others → DoSame does did
     → mine n (map (λ (p : Player). if p.number == who then (does p).0 else p) players) ≡ mine n (map (λ (p : Player). if p.number == who then (did p).0 else p) others)
 one_same n who does did k l players others e h = elim (cases_Bool (who == n)) [
@@ -161,6 +171,7 @@ one_same n who does did k l players others e h = elim (cases_Bool (who == n)) [
   | inr t ↦ mine_other n who does k t players ∙ e ∙ sym (mine_other n who did l t others)
 ]
 
+-- so does a join
 joined_same : (n : ℕ) (new : Player) (players others : List Player) → mine n players ≡ mine n others → mine n (ordered new players) ≡ mine n (ordered new others)
 joined_same n new players others e = elim (cases_Bool (new.number == n)) [
   | inl t ↦ mine_joined n new (eqb-true new.number n t) players ∙ sym (mine_joined n new (eqb-true new.number n t) others)
@@ -210,6 +221,7 @@ line_same table n (Forge side player bytes) story other e h =
 
 -- ---- lines about others
 
+-- another number is another player
 is_other : (who n : ℕ) → not (who == n) ≡ true → (who == n) ≡ false
 is_other who n h = grind (arith, nat_tests)
 

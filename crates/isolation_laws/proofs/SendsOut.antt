@@ -12,16 +12,19 @@ use Rattle.isolation_laws.specs.Isolation.{sent_to, numbered, SendsOut, heard_by
 use Rattle.isolation_laws.proofs.OnePlayer.{mine}
 use Rattle.isolation_laws.proofs.SentByFeed.{shown_of, sends_of, stalled_none, sent_by_feed, as_heard, heard_sends}
 
+-- packets numbered in two parts
 numbered_append : (k : ℕ) (xs ys : List (List ℕ)) → numbered k (xs ++ ys) ≡ numbered k xs ++ numbered (length xs + k) ys
 numbered_append k [] ys = let e : k ≡ 0 + k = omega arith in ap (λ n. numbered n ys) e
 numbered_append k (x ∷ xs) ys =
     let e : length xs + (k + 1) ≡ length (x ∷ xs) + k = omega arith in
     ap (λ (l : List (ℕ × List ℕ)). (k, x) ∷ l) (numbered_append (k + 1) xs ys ∙ ap (λ n. numbered (k + 1) xs ++ numbered n ys) e)
 
+-- what is left behind a prefix
 drop_left : (xs ys : List (List ℕ)) → drop (length xs) (xs ++ ys) ≡ ys
 drop_left [] ys = refl
 drop_left (x ∷ xs) ys = drop_left xs ys
 
+-- the reports of sent packets show them with their numbers
 shown_numbered : (n k : ℕ) (packets : List (List ℕ)) → shown_of n (numbered_from AtServer n k packets) ≡ numbered k packets
 shown_numbered n k [] = refl
 shown_numbered n k (bytes ∷ packets) =
@@ -31,6 +34,7 @@ shown_numbered n k (bytes ∷ packets) =
     by true e xs = refl
     by false e xs = absurd (cc)
 
+-- what the ticks of a feed send is all that its end sends
 sends_out : (n : ℕ) (end : End) (feed : List Event) → sends_of n end feed ≡ numbered 1 (out_of end feed)
 sends_out n end [] = refl
 sends_out n end (Got bytes ∷ feed) = sends_out n end feed ∙ ap (numbered 1) (sym (got_sends end (past_of end feed) bytes))
@@ -47,6 +51,7 @@ sends_out n end (Tick s ∷ feed) =
     ∙ ap (numbered (length (out_of end feed) + 1)) (drop_left (out_of end feed) more.0))
     ∙ sym (numbered_append 1 (out_of end feed) more.0) ∙ ap (numbered 1) (sym more.1)
 
+-- the packets of the end that the player has, or none
 by_heard : (n : ℕ) (o : Option (End × List Event)) → heard_sends n o ≡ unwrap_or (option_map (λ (heard : End × List Event). numbered 1 (out_of heard.0 heard.1)) o) []
 by_heard n None = refl
 by_heard n (Some heard) = sends_out n heard.0 heard.1

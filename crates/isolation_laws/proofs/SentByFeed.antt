@@ -407,6 +407,7 @@ asked_of : {B : Type 0} (ask : End → List Event → B) (table : Table) (side :
 asked_of ask table side None = refl
 asked_of ask table side (Some p) = refl
 
+-- a line that asks leaves what is heard
 asked_same : {B : Type 0} (ask : End → List Event → B) (table : Table) (n : ℕ) (one other : List Line) (side : Side) → heard_by table one side n ≡ heard_by table other side n
     → option_map (λ (p : Player). ask (end_of table side p) (feed_of side p)) (mine n (story_of table one).0.players) ≡ option_map (λ (p : Player). ask (end_of table side p) (feed_of side p)) (mine n (story_of table other).0.players)
 asked_same ask table n one other side e =
@@ -424,12 +425,14 @@ answers_by_feed table n one other side e a m args =
 
 -- ---- unseen lines
 
+-- an unseen line joins no player
 once_without : (n : ℕ) (line : Line) → joins n line ≡ false → (before after : List Line) → joins_once n (before ++ after) ≡ joins_once n (before ++ line ∷ after)
 once_without n line f [] after = rw f refl
 once_without n line f (first ∷ before) after =
     ap (λ b. cond (joins n first) (not b) (joins_once n (before ++ after))) (any_skip (joins n) line f before after)
     ∙ ap (λ b. cond (joins n first) (not (list_any (joins n) (before ++ line ∷ after))) b) (once_without n line f before after)
 
+-- it isn't the player's join
 unseen_joins : (table : Table) (n : ℕ) (before : List Line) (line : Line) (after : List Line) → is_unseen table n before line after ≡ true → joins n line ≡ false
 unseen_joins table n before (Join player budget version) after h = not-true (player == n) h
 unseen_joins table n before (ApplyEdit x) after h = refl

@@ -23,18 +23,22 @@ use Rattle.isolation_laws.proofs.AlongLines.{with_edit, one_more, story_edits, s
 
 -- ---- worlds in which an actor is never relevant
 
+-- the test holds of the world after each edit
 abbrev AllWorlds : (Edits → Bool) → Edits → Type 0
 AllWorlds test [] = test [] ≡ true
 AllWorlds test (edit ∷ edits) = (test (edit ∷ edits) ≡ true) × AllWorlds test edits
 
+-- so it holds of each older world
 all_older : (test : Edits → Bool) (more older : Edits) → AllWorlds test (more ++ older) → AllWorlds test older
 all_older test [] older h = h
 all_older test (edit ∷ more) older h = all_older test more older h.1
 
+-- and of the newest
 now_holds : (test : Edits → Bool) (edits : Edits) → AllWorlds test edits → test edits ≡ true
 now_holds test [] h = h
 now_holds test (edit ∷ edits) h = h.0
 
+-- and with one more line
 world_more : (test : Edits → Bool) (one : List Line) (line : Line) → test (edits_of (one ++ line ∷ [])) ≡ true → AllWorlds test (edits_of one) → AllWorlds test (edits_of (one ++ line ∷ []))
 world_more test one line h w = subst (AllWorlds test) (sym (one_more one line)) (by (edit_in line) (ap test (sym (one_more one line)) ∙ h))
   where
@@ -42,6 +46,7 @@ world_more test one line h w = subst (AllWorlds test) (sym (one_more one line)) 
     by None e = w
     by (Some edit) e = (e, w)
 
+-- and along lines
 worlds_along : (test : Edits → Bool) (one lines : List Line) → Along test one lines → AllWorlds test (edits_of one) → AllWorlds test (edits_of (one ++ lines))
 worlds_along test one [] h w = subst (λ (l : List Line). AllWorlds test (edits_of l)) (sym (append-nil one)) w
 worlds_along test one (line ∷ lines) h w =
@@ -50,6 +55,7 @@ worlds_along test one (line ∷ lines) h w =
 
 -- ---- no sight had it as relevant
 
+-- an actor that isn't relevant isn't in the sight
 lacks : (table : Table) (edits : Edits) (n a : ℕ) (earlier : List ℕ) → is_relevant table edits n a ≡ false → (actors : List ℕ) → is_among a (relevant_in (Tick (filter_map (entry_of table edits n earlier) actors))) ≡ false
 lacks table edits n a earlier r [] = refl
 lacks table edits n a earlier r (b ∷ actors) = by (is_relevant table edits n b) (not (lives edits b) && is_among b earlier) refl (filter_map (entry_of table edits n earlier) actors) (lacks table edits n a earlier r actors)
@@ -66,6 +72,7 @@ lacks table edits n a earlier r (b ∷ actors) = by (is_relevant table edits n b
     by false true q rest later = later
     by false false q rest later = later
 
+-- so it is in no sight of the feed
 never_among : (table : Table) (n a : ℕ) (feed : List Event) (edits : Edits) → AllWorlds (is_irrelevant table n a) edits → Seeing table n edits (shown_by feed) → is_among a (flat_map relevant_in feed) ≡ false
 never_among table n a [] edits w h = refl
 never_among table n a (Tick s ∷ feed) edits w h =
@@ -77,6 +84,7 @@ never_among table n a (Tick s ∷ feed) edits w h =
 never_among table n a (Got bytes ∷ feed) edits w h = never_among table n a feed edits w h
 never_among table n a (Call b m args ∷ feed) edits w h = never_among table n a feed edits w h
 
+-- a player that is found has joined
 find_joined : (n : ℕ) (players : List Player) (p : Player) → mine n players ≡ Some p → (before after : List Player) × (players ≡ before ++ p ∷ after)
 find_joined n [] p e = absurd (cc)
 find_joined n (q ∷ players) p e = by (q.number == n) (find_joined n players p) e
@@ -99,6 +107,7 @@ found_lacks table n a one w p found =
 abbrev FoundSame : Table → ℕ → (before : List Line) → Line → (after : List Line) → Type 0
 FoundSame table n before line after = found_in table n (before ++ after) ≡ found_in table n (before ++ line ∷ after)
 
+-- the player found alike before the line stays so after it
 goes_on : (table : Table) (n : ℕ) (before : List Line) (line : Line) (after : List Line) → found_in table n before ≡ found_in table n (before ++ line ∷ []) → Course table n before (before ++ line ∷ []) after → FoundSame table n before line after
 goes_on table n before line after e course = follow table n before (before ++ line ∷ []) after course e ∙ ap (found_in table n) (append_assoc before (line ∷ []) after)
 
@@ -109,12 +118,14 @@ others_unseen table n before line after e other =
     (sym (ap (λ (told : Story × List Report). mine n told.0.players) (story_more table before line) ∙ other_line table n line (story_of table before).0 other))
     (same_course table n before (before ++ line ∷ []) after (sym (one_more before line ∙ ap (λ (o : Option Edit). with_edit o (edits_of before)) e)))
 
+-- an edit that no sight shows leaves the player
 edits_unseen : (table : Table) (n : ℕ) (before : List Line) (x : Edit) (after : List Line) (test : Edits → Bool) (W : List Line → Type 0) → Blinds table n x (edits_of before) test W → W before
     → Along test before after → Along test (before ++ ApplyEdit x ∷ []) after → FoundSame table n before (ApplyEdit x) after
 edits_unseen table n before x after test W b w h k =
     goes_on table n before (ApplyEdit x) after (sym (ap (λ (told : Story × List Report). mine n told.0.players) (story_more table before (ApplyEdit x))))
     (edit_course table n x (edits_of before) test W b [] before (before ++ ApplyEdit x ∷ []) after refl (one_more before (ApplyEdit x)) w h k)
 
+-- a test with the line and without it, in two halves
 from_parts : (test : Edits → Bool) (before : List Line) (line : Line) (after : List Line) → holds_from test before line after ≡ true → Along test before after × Along test (before ++ line ∷ []) after
 from_parts test before line after h =
     let parts = and_parts (holds_along test before after) (holds_along test (before ++ line ∷ []) after) h in (along test before after parts.0, along test (before ++ line ∷ []) after parts.1)
@@ -166,6 +177,7 @@ custom_values_unseen table n before a h v after c k =
 
 -- ---- all of them
 
+-- a hidden value leaves the player
 value_hidden : (table : Table) (n : ℕ) (before : List Line) (x : Edit) (after : List Line) → hides_value table n before x after ≡ true → FoundSame table n before (ApplyEdit x) after
 value_hidden table n before (Set a h v) after k =
     elim (or_cases (has_cond is_owner_only table (edits_of before) a h && holds_from (λ edits. not (owns edits n a)) before (ApplyEdit (Set a h v)) after)
@@ -185,6 +197,7 @@ value_hidden table n before (Switch a h on) after k = absurd (cc)
 value_hidden table n before (Team p t) after k = absurd (cc)
 value_hidden table n before (Give a t) after k = absurd (cc)
 
+-- an edit out of sight leaves the player
 out_of_sight : (table : Table) (n : ℕ) (before : List Line) (x : Edit) (after : List Line) → is_out_of_sight table n before x after ≡ true → FoundSame table n before (ApplyEdit x) after
 out_of_sight table n before (Destroy a) after k = destroys_out_of_sight table n before a after k
 out_of_sight table n before (Set a h v) after k = edits_out_of_sight table n before (Set a h v) a after refl (λ c e. absurd (cc)) k
@@ -199,6 +212,7 @@ out_of_sight table n before (Spawn class u v) after k = absurd (cc)
 out_of_sight table n before (View p u v) after k = absurd (cc)
 out_of_sight table n before (Team p t) after k = absurd (cc)
 
+-- each unseen line leaves the player
 unseen : (table : Table) (n : ℕ) (before : List Line) (line : Line) (after : List Line) → is_unseen table n before line after ≡ true → FoundSame table n before line after
 unseen table n before (ApplyEdit x) after h = elim (or_cases (hides_value table n before x after) (is_out_of_sight table n before x after) h) [
   | inl e ↦ value_hidden table n before x after e
@@ -221,10 +235,12 @@ feeds_stay table n before after line h side = ap (option_map (λ (p : Player). (
 
 -- ---- lines that ask
 
+-- nothing is done to the player found
 option_kept : (o : Option Player) → option_map (λ (p : Player). p) o ≡ o
 option_kept None = refl
 option_kept (Some p) = refl
 
+-- nothing is done to any player
 told_alone : (n who : ℕ) (tell : Player → List Report) (players : List Player) → mine n (map (λ (p : Player). cond (p.number == who) p p) players) ≡ mine n players
 told_alone n who tell players = elim (cases_Bool (who == n)) [
   | inl t ↦ subst (λ (w : ℕ). mine n (map (λ (p : Player). cond (p.number == w) p p) players) ≡ mine n players) (sym (eqb-true who n t))
@@ -232,6 +248,7 @@ told_alone n who tell players = elim (cases_Bool (who == n)) [
   | inr t ↦ mine_other n who (λ (p : Player). (p, tell p)) (λ p. refl) t players
 ]
 
+-- a line that asks does nothing
 asking_stays : (table : Table) (n : ℕ) (line : Line) (story : Story) → asks line ≡ true → (edit_in line ≡ None) × (mine n (after_line table story line).0.players ≡ mine n story.players)
 asking_stays table n (Dump player) story h = (refl, told_alone n player (λ (p : Player). []) story.players)
 asking_stays table n (AskSettled player a) story h = (refl, told_alone n player (λ (p : Player). []) story.players)

@@ -59,16 +59,19 @@ use Rattle.recovery_laws.proofs.SentPackets.{SentAt, sent_at, items_at}
 
 -- ---- what a packet said is what it was sent with
 
+-- a datagram that holds these items says their unreliable messages
 held_loose : (items : List Item) → filter_map loose_said (map (λ (item : Item). SaysItem item) items) ≡ filter_map loose_in items
 held_loose [] = refl
 held_loose (Owed n ∷ items) = held_loose items
 held_loose (Carries c n b ∷ items) = held_loose items
 held_loose (Loose m b ∷ items) = ap (λ (l : List Message). m ∷ l) (held_loose items)
 
+-- with or without its acknowledgements
 all_loose : (v : Version) (past : Past) (items : List Item) → filter_map loose_said (all_said v past items) ≡ filter_map loose_in items
 all_loose One past items = held_loose items
 all_loose Two past items = held_loose items
 
+-- a packet says the unreliable messages that it was sent with
 said_loose : (v : Version) (past : Past) (k : ℕ) → filter_map loose_said (said_by v past k) ≡ loose_of past k
 said_loose v [] k = refl
 said_loose v (Ticked t s ∷ past) k = said_loose v past k
@@ -84,6 +87,7 @@ said_loose v (Sent n t items ∷ past) k = by (n == k) (said_loose v past k)
 
 -- ---- a server's packets stay as they were
 
+-- what was applied stays so as the sender goes on
 loose_later : (from later : Past) (to : Past) → ((n : ℕ) → is_among n (taken_of to) ≡ true → loose_of later n ≡ loose_of from n) → AppliesLoose from to → AppliesLoose later to
 loose_later from later [] same h = tt
 loose_later from later (Ticked t s ∷ to) same h = (tt, loose_later from later to same h.1)
@@ -94,6 +98,7 @@ loose_later from later (Ended g ∷ to) same h = (tt, loose_later from later to 
 loose_later from later (Took n es ds ∷ to) same h =
     (h.0 ∙ sym (same n (among_here n (taken_of to) n refl)), loose_later from later to (λ k q. same k (among_there n (taken_of to) k q)) h.1)
 
+-- a packet's items stay as the sender goes on
 items_stay : (end : End) (more from : Past) → DeedsFit end from → DeedsFit end (more ++ from) → (k : ℕ) → 1 ≤ k → k ≤ last_sent from → items_of (more ++ from) k ≡ items_of from k
 items_stay end more from fit later k lo hi = by (sent_at end from fit k lo hi)
   where
@@ -105,6 +110,7 @@ items_stay end more from fit later k lo hi = by (sent_at end from fit k lo hi)
 
 -- ---- a client that hears nothing
 
+-- a move that takes nothing leaves what was applied
 quiet_loose : (end : End) (from past : Past) (move : Move) → IsQuiet move → IsRun end past × AppliesLoose from past → has_ended past ≡ false → May end past move → IsRun end (after_move past move) × AppliesLoose from (after_move past move)
 quiet_loose end from past (Ticks sight) quiet h alive may = absurd quiet
 quiet_loose end from past (Makes ch m) quiet h alive may =
@@ -116,11 +122,13 @@ quiet_loose end from past (Hears entry) quiet h alive may = absurd quiet
 quiet_loose end from past (Hands d) quiet h alive may = absurd quiet
 quiet_loose end from past (Ends g) quiet h alive may = (does (Ends g) h.0 alive may, (tt, h.1))
 
+-- so does every run of such moves
 loose_goes : (end : End) (from : Past) → Goes end (λ (past : Past). IsRun end past × AppliesLoose from past)
 loose_goes end from = record { is_run = λ past h. h.0; goes = quiet_loose end from }
 
 -- ---- nothing but a datagram closes an end
 
+-- an end that hasn't ended wasn't closed by a datagram
 alive_unclosed : (past : Past) → has_ended past ≡ false → is_closed_by past ≡ false
 alive_unclosed [] e = refl
 alive_unclosed (Ticked t s ∷ past) e = alive_unclosed past e
@@ -130,9 +138,11 @@ alive_unclosed (Sent n t items ∷ past) e = alive_unclosed past e
 alive_unclosed (Took n es ds ∷ past) e = alive_unclosed past e
 alive_unclosed (Ended g ∷ past) e = absurd (false≢true (sym e))
 
+-- a stall closes nothing so
 stall_unclosed : (past : Past) → is_closed_by past ≡ false → is_closed_by (after_stall past) ≡ false
 stall_unclosed past h = cond_both (nat_le 4096 (unresolved_count past)) (Ended ByStall ∷ past) past (λ (p : Past). is_closed_by p ≡ false) (λ e. h) (λ e. h)
 
+-- nor does a tick
 tick_unclosed : (end : End) (past : Past) (sight : List Seen) → IsDone (IsRun end) past → is_closed_by past ≡ false → is_closed_by (after_tick end past sight) ≡ false
 tick_unclosed end past sight h closed = elim (cases_Bool (has_ended past)) [
   | inl e ↦ rw e closed
@@ -149,9 +159,11 @@ tick_unclosed end past sight h closed = elim (cases_Bool (has_ended past)) [
         (sendable end (IsRun end) (runs_go end) past packing (packing_packs end (IsRun end) (runs_go end) past (after_closes begin) h.run closed_now (h.few e))) in
         stall_unclosed (fold after_sending packing.past (packets_to_send end past packing)) (alive_unclosed (fold after_sending packing.past (packets_to_send end past packing)) sent.alive)
 
+-- nor does the making of a message
 made_unclosed : (past : Past) (ch : ℕ) (m : Message) → is_closed_by past ≡ false → is_closed_by (after_making past ch m) ≡ false
 made_unclosed past ch m h = making_keeps (λ i now. is_closed_by now ≡ false) past ch m h (λ i now lt e. e)
 
+-- nor does a call
 call_unclosed : (side : Side) (past : Past) (a n : ℕ) (args : List Arg) → is_closed_by past ≡ false → is_closed_by (after_call side past a n args) ≡ false
 call_unclosed side past a n args h = by (answer_of side past a n args)
   where
@@ -169,6 +181,7 @@ call_unclosed side past a n args h = by (answer_of side past a n args)
 
 -- ---- what one thing said adds
 
+-- one more payload stands at its place when the list is turned round
 loose_more : (o : Option Message) (rest : List Message) (before : List Message) → reverse (cons_option o rest) ++ before ≡ reverse rest ++ cons_option o before
 loose_more None rest before = refl
 loose_more (Some m) rest before = ap (λ (l : List Message). l ++ before) (reverse-append (m ∷ []) rest) ∙ append_assoc (reverse rest) (m ∷ []) before

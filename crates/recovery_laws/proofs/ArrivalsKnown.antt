@@ -31,6 +31,7 @@ use Rattle.headline_laws.proofs.ReceivedFirst.{row_at, parts_reverse}
 
 -- ---- what had arrived when a packet was sent has arrived
 
+-- what is known to have arrived when a packet is sent is known ever after
 abbrev StayArrived : Past → Type 0
 StayArrived past = (more : Past) (k t : ℕ) (items : List Item) (before : Past) → past ≡ more ++ Sent k t items ∷ before → (ch i : ℕ) → has_arrived before ch i ≡ true → has_arrived past ch i ≡ true
 
@@ -39,12 +40,14 @@ behind : (deed : Deed) (past more : Past) (found : Deed) (before : Past) → dee
 behind deed past [] found before e = inl ((let q : deed ≡ found = cc in q), (let q : past ≡ before = cc in q))
 behind deed past (x ∷ more) found before e = inr (more, cc)
 
+-- so it is over a deed that sends nothing
 stay_behind : (deed : Deed) (past : Past) → ((k t : ℕ) (items : List Item) → deed ≡ Sent k t items → ⊥) → ((ch i : ℕ) → has_arrived past ch i ≡ true → has_arrived (deed ∷ past) ch i ≡ true) → StayArrived past → StayArrived (deed ∷ past)
 stay_behind deed past never grows h more k t items before e ch i a = elim (behind deed past more (Sent k t items) before e) [
   | inl q ↦ absurd (never k t items q.0)
   | inr q ↦ grows ch i (h q.0 k t items before q.1 ch i a)
 ]
 
+-- and over one that sends
 stay_sent : (end : End) (past : Past) (items : List Item) → IsRun end past → May end past (Sends items) → StayArrived past → StayArrived (after_sending past items)
 stay_sent end past items run may h more k t other before e ch i a =
     let same : has_arrived (after_sending past items) ch i ≡ has_arrived past ch i = arrival_sent end past items (λ n q. (moves_sent end past run n q).1) may.each ch i in
@@ -53,6 +56,7 @@ stay_sent end past items run may h more k t other before e ch i a =
       | inr q ↦ same ∙ h q.0 k t other before q.1 ch i a
     ]
 
+-- and with one more entry told
 stay_told : (entry : Entry) (past : Past) → StayArrived past → StayArrived (with_told entry past)
 stay_told entry (Took n es ds ∷ past) h = λ more k t items before e ch i a. elim (behind (Took n (entry ∷ es) ds) past more (Sent k t items) before e) [
   | inl q ↦ absurd (let no : Took n (entry ∷ es) ds ≡ Sent k t items = q.0 in cc)
@@ -65,6 +69,7 @@ stay_told entry (Waits m ∷ past) h = h
 stay_told entry (Sent n t items ∷ past) h = h
 stay_told entry (Ended g ∷ past) h = h
 
+-- and with one more payload handed on
 stay_handed : (d : Delivered) (past : Past) → StayArrived past → StayArrived (with_handed d past)
 stay_handed d (Took n es ds ∷ past) h = λ more k t items before e ch i a. elim (behind (Took n es (d ∷ ds)) past more (Sent k t items) before e) [
   | inl q ↦ absurd (let no : Took n es (d ∷ ds) ≡ Sent k t items = q.0 in cc)

@@ -49,6 +49,7 @@ NoUpdate (Updates actor class values) = ⊥
 NoUpdate (Calls actor number call args) = Unit {0}
 NoUpdate (Gone actor) = Unit {0}
 
+-- a reliable message is no update
 no_update : (before : List Numbered) (m : Message) → FitsUse before m → NoUpdate m
 no_update before (Opens exports actor class values) h = tt
 no_update before (Closes actor sleeps) h = tt
@@ -56,6 +57,7 @@ no_update before (Updates actor class values) h = h
 no_update before (Calls actor number call args) h = tt
 no_update before (Gone actor) h = tt
 
+-- nor are the messages of an index
 no_updates : (ms : List Numbered) → Brackets ms → AllByRecursion (λ (x : Numbered). NoUpdate x.1) ms
 no_updates [] h = tt
 no_updates (made ∷ before) h = (no_update before made.1 h.0, no_updates before h.1)
@@ -72,6 +74,7 @@ reliables server client fit trails = all_by_among (λ (d : Delivered). d.reliabl
 
 -- ---- what the payloads say
 
+-- a message that neither opens nor updates the actor sets nothing
 quiet_says : (a h : ℕ) (m : Message) → NoUpdate m → opens_said a m ≡ None → value_said a h m ≡ None
 quiet_says a h (Opens exports actor class values) n e = by (actor == a) e
   where
@@ -117,6 +120,7 @@ SameValues items = (a h : ℕ) (v w : ℤ) (x y : Item) → IsIn x items → IsI
 abbrev pub SaysNothing : (actor handle : ℕ) → List Item → Type 0
 SaysNothing a h items = AllByRecursion (λ (item : Item). value_in_update a h item ≡ None) items
 
+-- a deed without a carry sends nothing for the handle
 says_nothing : (a h : ℕ) (deed : Deed) → update_carry a h deed ≡ None → SentHas (SaysNothing a h) deed
 says_nothing a h (Sent n t items) e = newest_none (value_in_update a h) items (by (newest_of (value_in_update a h) items) refl e)
   where
@@ -129,6 +133,7 @@ says_nothing a h (Waits m) e = tt
 says_nothing a h (Took n es ds) e = tt
 says_nothing a h (Ended g) e = tt
 
+-- nor do deeds without one
 all_nothing : (a h : ℕ) (past : Past) → AllByRecursion (λ (d : Deed). update_carry a h d ≡ None) past → AllByRecursion (SentHas (SaysNothing a h)) past
 all_nothing a h past all = all_weaker (λ (d : Deed). update_carry a h d ≡ None) (SentHas (SaysNothing a h)) (λ d e. says_nothing a h d e) past all
 
@@ -141,6 +146,7 @@ record CarriedBy (a h : ℕ) (deed : Deed) (c : Carry) : Type 0 where
   packet : c.packet ≡ Some number
   value : newest_of (value_in_update a h) items ≡ Some c.value
 
+-- where a deed carries the handle, an item of its packet does
 carried_by : (a h : ℕ) (deed : Deed) (c : Carry) → update_carry a h deed ≡ Some c → CarriedBy a h deed c
 carried_by a h (Sent n t items) c e = by (newest_of (value_in_update a h) items) refl e
   where

@@ -43,6 +43,7 @@ pub record TookAt (past : Past) (k : ℕ) : Type 0 where
   pub before : Past
   pub split : past ≡ later ++ Took k entries handed ∷ before
 
+-- what was taken below a deed was taken
 took_behind : (past : Past) (k : ℕ) (deed : Deed) → TookAt past k → TookAt (deed ∷ past) k
 took_behind past k deed t = record { later = deed ∷ t.later; entries = t.entries; handed = t.handed; before = t.before; split = ap (λ (l : Past). deed ∷ l) t.split }
 
@@ -59,6 +60,7 @@ took_at (Took n es ds ∷ past) k h = elim (among_cons n (taken_of past) k h) [
   | inr q ↦ took_behind past k (Took n es ds) (took_at past k q)
 ]
 
+-- a packet that was taken in the middle is among those taken
 took_least : (later : Past) (k : ℕ) (es : List Entry) (ds : List Delivered) (before : Past) → is_among k (taken_of (later ++ Took k es ds ∷ before)) ≡ true
 took_least [] k es ds before = among_here k (taken_of before) k refl
 took_least (Ticked t s ∷ later) k es ds before = took_least later k es ds before
@@ -110,6 +112,7 @@ end_has (x ∷ xs) ys (y ∷ newer) made older e lt = end_has xs ys newer made o
 
 -- ---- the state when an update was sent
 
+-- a channel that closes isn't opened
 closed_unopened : (t s : Bool) → is_opened (closed_as t s) ≡ false
 closed_unopened false s = refl
 closed_unopened true true = refl
@@ -159,6 +162,7 @@ opened_mark whole a (Ended g ∷ newer) ch n exports class values older none h =
 
 -- ---- places of packets are one
 
+-- a packet is sent once
 sent_once : (end : End) (k : ℕ) (xs : Past) (t : ℕ) (items : List Item) (ys us : Past) (u : ℕ) (others : List Item) (vs : Past) → DeedsFit end (xs ++ Sent k t items ∷ ys) → xs ++ Sent k t items ∷ ys ≡ us ++ Sent k u others ∷ vs
     → (ys ≡ vs) × (items ≡ others)
 sent_once end k [] t items ys [] u others vs fit e = ((let q : ys ≡ vs = cc in q), (let q : items ≡ others = cc in q))
@@ -175,6 +179,7 @@ sent_once end k (x ∷ xs) t items ys (y ∷ us) u others vs fit e =
 
 -- ---- what is known of the client when a packet was sent or taken
 
+-- each bunch from one on has arrived
 each_arrived : (past : Past) (ch count from : ℕ) → ((i : ℕ) → from ≤ i → i < from + count → has_arrived past ch i ≡ true) → list_all (has_arrived past ch) (range_with_len from count) ≡ true
 each_arrived past ch zero from h = refl
 each_arrived past ch (suc count) from h =

@@ -37,6 +37,7 @@ same_end {A} (x ∷ xs) ys zs e = same_end xs ys zs (tail x (xs ++ ys) (xs ++ zs
     tail : (x : A) (ys zs : List A) → x ∷ ys ≡ x ∷ zs → ys ≡ zs
     tail x ys zs e = cc
 
+-- a list turned round and mapped
 map_reversed : {A B : Type 0} (f : A → B) (xs : List A) → map f (reverse xs) ≡ reverse (map f xs)
 map_reversed f [] = refl
 map_reversed {A} {B} f (x ∷ xs) =
@@ -73,6 +74,7 @@ record Mapped {A B : Type 0} (f : A → B) (zs : List A) (xs ys : List B) : Type
   xs_are : xs ≡ map f first
   ys_are : ys ≡ map f second
 
+-- two mapped lists split at the same place
 mapped_split : {A B : Type 0} (f : A → B) (zs : List A) (xs ys : List B) → xs ++ ys ≡ map f zs → Mapped f zs xs ys
 mapped_split f zs [] ys e = record { first = []; second = zs; split = refl; xs_are = refl; ys_are = e }
 mapped_split f [] (x ∷ xs) ys e = absurd (cc)
@@ -102,6 +104,7 @@ pub all_second : {A : Type 0} (P : A → Type 0) (xs ys : List A) → AllByRecur
 all_second P [] ys h = h
 all_second P (x ∷ xs) ys h = all_second P xs ys h.1
 
+-- the payloads' messages are those that were made
 as_mapped : (P : Message → Type 0) (ds : List Delivered) (ms : List Numbered) → map (λ (d : Delivered). d.message) ds ≡ map (λ (x : Numbered). x.1) ms
     → AllByRecursion (λ (x : Numbered). P x.1) ms → AllByRecursion (λ (d : Delivered). P d.message) ds
 as_mapped P [] ms e h = tt
@@ -115,6 +118,7 @@ as_mapped P (d ∷ ds) (x ∷ ms) e h =
     same_tail : {A : Type 0} (x y : A) (xs ys : List A) → x ∷ xs ≡ y ∷ ys → xs ≡ ys
     same_tail x y xs ys e = cc
 
+-- so they are as many
 mapped_length : (ds : List Delivered) (ms : List Numbered) → map (λ (d : Delivered). d.message) ds ≡ map (λ (x : Numbered). x.1) ms → length ds ≡ length ms
 mapped_length ds ms e = sym (length-map ds (λ (d : Delivered). d.message)) ∙ ap length e ∙ length-map ms (λ (x : Numbered). x.1)
 

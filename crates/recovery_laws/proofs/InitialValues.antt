@@ -33,16 +33,19 @@ use Rattle.recovery_laws.proofs.SightsAgree.{seeing_behind, update_all, update_v
 
 -- ---- no update has an initial-only handle
 
+-- what a test keeps passes it
 kept_by_test : (test : Pair → Bool) (ps : List Pair) → AllByRecursion (λ (p : Pair). test p ≡ true) (filter test ps)
 kept_by_test test [] = tt
 kept_by_test test (p ∷ ps) = cond_both (test p) (p ∷ filter test ps) (filter test ps) (AllByRecursion (λ (x : Pair). test x ≡ true)) (λ e. (e, kept_by_test test ps)) (λ e. kept_by_test test ps)
 
+-- an initial-only handle isn't updatable
 not_updatable : (seen : Seen) (p : Pair) (h : ℕ) → IsInitial seen.class h → p.handle ≡ h → is_updatable seen p ≡ true → ⊥
 not_updatable seen p h i e u =
     let found : prop_at seen.class p.handle ≡ Some i.0 = ap (prop_at seen.class) e ∙ i.1 in
     let says : is_updatable seen p ≡ false = ap (λ (o : Option Prop). unwrap_or (option_map (λ (prop : Prop). updatable prop.cond seen.owns true) o) false) found ∙ ap (λ (c : Cond). updatable c seen.owns true) i.2 in
     false≢true (sym says ∙ u)
 
+-- so no update has it
 no_handle : (seen : Seen) (h : ℕ) → IsInitial seen.class h → (pairs : List Pair) → AllByRecursion (λ (p : Pair). is_updatable seen p ≡ true) pairs → value_among pairs h ≡ None
 no_handle seen h i [] all = refl
 no_handle seen h i (p ∷ pairs) all = ap (λ (t : Bool). cond t (Some p.value) (value_among pairs h)) (ne_eqb p.handle h (λ e. not_updatable seen p h i e all.0)) ∙ no_handle seen h i pairs all.1
@@ -110,9 +113,11 @@ seen_there world vis (p ∷ props) n (suc i) prop e v =
     (λ t. ap (λ (b : Bool). cond b (Some (world n)) (value_among (map (λ (e : ℕ × Prop). record { handle = e.0; value = world e.0 }) (filter vis (numbered_from (n + 1) props))) (n + suc i))) (ne_eqb n (n + suc i) (λ q. absurd (omega (arith, q)))) ∙ rest)
     (λ t. rest)
 
+-- an initial-only value is visible to all
 initial_visible : (c : Cond) (owner on : Bool) → c ≡ InitialOnly → visible c owner on ≡ true
 initial_visible c owner on e = ap (λ (x : Cond). visible x owner on) e
 
+-- the role's handle isn't initial-only
 not_role : (class : Class) (h : ℕ) → IsInitial class h → (h == 3) ≡ false
 not_role class h i = ne_eqb h 3 (λ e. never (ap (prop_at class) (sym e) ∙ i.1) i.2)
   where

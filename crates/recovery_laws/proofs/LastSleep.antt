@@ -34,6 +34,7 @@ pub record SleepLast (whole past : Past) (a : ℕ) : Type 0 where
   pub unmarked : AllByRecursion (λ (d : Deed). mark_in a d ≡ None) newer
   pub arrived : have_arrived whole channel 1 number ≡ true
 
+-- the last sleep stays so over a deed without a mark
 sleep_behind : (whole past : Past) (a : ℕ) (deed : Deed) → mark_in a deed ≡ None → SleepLast whole past a → SleepLast whole (deed ∷ past) a
 sleep_behind whole past a deed m o = record {
   channel = o.channel;
@@ -97,6 +98,7 @@ sleep_last whole (Made c n m i ∷ past) a h = by ((actor_of m == a) && is_mark 
 
 -- ---- an unmarked deed begins no open
 
+-- a deed without a mark begins no open
 unmarked_free : (a : ℕ) (deed : Deed) → mark_in a deed ≡ None → begins_open a deed ≡ false
 unmarked_free a (Ticked t s) e = refl
 unmarked_free a (Waits m) e = refl
@@ -121,6 +123,7 @@ all_free a (d ∷ past) h = (unmarked_free a d h.0, all_free a past h.1)
 
 -- ---- a carry stays while the actor isn't opened
 
+-- nor does it carry an open's values
 no_values : (a : ℕ) (deed : Deed) → is_open_of a deed ≡ false → open_values_in a deed ≡ None
 no_values a (Ticked t s) e = refl
 no_values a (Waits m) e = refl
@@ -133,12 +136,14 @@ no_values a (Made c n (Calls b x k vs) i) e = refl
 no_values a (Made c n (Gone b) i) e = refl
 no_values a (Made c n (Opens es b k vs) i) e = ap (λ (t : Bool). then_some t vs) e
 
+-- so each carry stays
 carry_one : (a h : ℕ) (deed : Deed) (past : Past) → is_open_of a deed ≡ false → update_carry a h deed ≡ None → carry_of (deed ∷ past) a h ≡ carry_of past a h
 carry_one a h deed past o u =
     ap (λ (l : Past). or_else (newest_of (update_carry a h) l) (carry_in None (value_among (open_values (deed ∷ past) a) h))) (ap (λ (t : Bool). cond t [] (deed ∷ items_since (is_open_of a) past)) o)
     ∙ ap (λ (x : Option Carry). or_else x (carry_in None (value_among (open_values (deed ∷ past) a) h))) (newest_miss (update_carry a h) deed (items_since (is_open_of a) past) u)
     ∙ ap (λ (vs : Option (List Pair)). or_else (newest_of (update_carry a h) (items_since (is_open_of a) past)) (carry_in None (value_among (unwrap_or vs []) h))) (newest_miss (open_values_in a) deed past (no_values a deed o))
 
+-- a closing channel's state isn't opened
 closed_state : (whole : Past) (t s : Bool) → is_opened (closed_as t s) ≡ false
 closed_state whole false s = refl
 closed_state whole true true = refl
@@ -223,6 +228,7 @@ module _ (end : End) (a ch n : ℕ) (older : Past) where
 
 -- ---- what moved has moved
 
+-- what arrived stays among what arrived
 moved_after : (es more : List Entry) (k : ℕ) → is_among k (moved_by more) ≡ true → is_among k (moved_by (es ++ more)) ≡ true
 moved_after [] more k h = h
 moved_after (e ∷ es) more k h =

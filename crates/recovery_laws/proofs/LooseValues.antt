@@ -36,6 +36,7 @@ pub reversed_twice : {A : Type 0} (xs : List A) → reverse (reverse xs) ≡ xs
 reversed_twice [] = refl
 reversed_twice {A} (x ∷ xs) = ap (λ (l : List A). reverse l) (reverse-append (x ∷ []) xs) ∙ reverse-append (reverse xs) (x ∷ []) ∙ ap (λ (l : List A). x ∷ l) (reversed_twice xs)
 
+-- what is in a list is in it turned round
 among_reverse : {A : Type 0} (x : A) (xs : List A) → IsIn x xs → IsIn x (reverse xs)
 among_reverse x [] h = absurd h
 among_reverse {A} x (y ∷ xs) (inl e) = subst (IsIn x) (sym (reverse-append (y ∷ []) xs)) (in_right x (reverse xs) (y ∷ []) (inl e))
@@ -57,6 +58,7 @@ PlainItem (Owed number) = Unit {0}
 PlainItem (Carries channel number bunch) = Unit {0}
 PlainItem (Loose message bunch) = IsPlain message
 
+-- an unreliable item is plain
 plain_item : (end : End) (past : Past) (item : Item) → MaySend end past item → PlainItem item
 plain_item end past (Owed number) h = tt
 plain_item end past (Carries channel number bunch) h = tt
@@ -66,6 +68,7 @@ plain_item end past (Loose (Gone actor) bunch) h = absurd h.2
 plain_item end past (Loose (Updates actor class values) bunch) h = tt
 plain_item end past (Loose (Calls actor number call args) bunch) h = tt
 
+-- so is each of a packet
 plain_each : (end : End) (past : Past) (items : List Item) → AllByRecursion (MaySend end past) items → AllByRecursion PlainItem items
 plain_each end past [] h = tt
 plain_each end past (item ∷ items) h = (plain_item end past item h.0, plain_each end past items h.1)
@@ -124,6 +127,7 @@ loose_one a h v (Loose message bunch ∷ before) item after plain e = (let r = l
 
 -- ---- what was handed on
 
+-- what holds of the unreliable messages holds of the payloads
 handed_if : (Q : Message → Type 0) (ds : List Delivered) → AllByRecursion Q (filter_map handed_loosely ds) → AllByRecursion (λ (d : Delivered). d.reliable ≡ false → Q d.message) ds
 handed_if Q [] h = tt
 handed_if Q (d ∷ ds) h = by d.reliable refl h (λ q. handed_if Q ds q)
@@ -144,6 +148,7 @@ pub record HandedOn (m : Message) (ds : List Delivered) : Type 0 where
   pub unreliable : delivered.reliable ≡ false
   pub is : delivered.message ≡ m
 
+-- each of them was handed on
 handed_there : (m : Message) (ds : List Delivered) → IsIn m (filter_map handed_loosely ds) → HandedOn m ds
 handed_there m [] h = absurd h
 handed_there m (d ∷ ds) h = by d.reliable refl h (λ q. handed_there m ds q)

@@ -27,18 +27,22 @@ DeedPlaced end past (Ended g) = Unit {0}
 abbrev pub EachPlaced : End → Past → Type 0
 EachPlaced end past = EachDeed (DeedPlaced end) past
 
+-- the first parts of a message were made in their place
 abbrev PlacedUpTo : End → Past → ℕ → Past → Type 0
 PlacedUpTo end past zero before = (before ≡ past) × EachPlaced end before
 PlacedUpTo end past (suc i) before = EachPlaced end before
 
+-- all of them were
 placed_end : (end : End) (past : Past) (i : ℕ) (before : Past) → 1 ≤ i → PlacedUpTo end past i before → EachPlaced end before
 placed_end end past zero before lo h = absurd (omega (arith, lo))
 placed_end end past (suc i) before lo h = h
 
+-- so is one more
 placed_step : (end : End) (past : Past) (c : ℕ) (m : Message) → HasPlace end past c m → (i : ℕ) (before : Past) → PlacedUpTo end past i before → PlacedUpTo end past (suc i) (Made c (made_count past c + 1 + i) m i ∷ before)
 placed_step end past c m place zero before h = ((λ z. subst (λ (p : Past). HasPlace end p c m) (sym h.0) place), h.1)
 placed_step end past c m place (suc i) before h = ((λ z. absurd (let never : suc i ≡ 0 = z in omega (arith, never))), h)
 
+-- so is the whole making
 making_placed : (end : End) (past : Past) (c : ℕ) (m : Message) → MayMake end past c m → EachPlaced end past → EachPlaced end (after_making past c m)
 making_placed end past c m may h =
     placed_end end past (parts_of m) (after_making past c m) (some_parts m)
@@ -64,6 +68,7 @@ pub record MadeIn (past : Past) (ch : ℕ) (made : Numbered) : Type 0 where
   pub older : Past
   pub split : past ≡ newer ++ Made ch made.0 made.1 0 ∷ older
 
+-- what was made below a deed was made
 made_behind : (past : Past) (ch : ℕ) (made : Numbered) (deed : Deed) → MadeIn past ch made → MadeIn (deed ∷ past) ch made
 made_behind past ch made deed m = record { newer = deed ∷ m.newer; older = m.older; split = ap (λ (l : Past). deed ∷ l) m.split }
 

@@ -36,9 +36,11 @@ use Rattle.connection_laws.proofs.StoriesTalk.{linked}
 abbrev pub Extends : (past later : Past) → Type 0
 Extends past later = (more : Past) × (later ≡ more ++ past)
 
+-- one more deed extends a past
 one_more : (past later : Past) (deed : Deed) → Extends past later → Extends past (deed ∷ later)
 one_more past later deed e = (deed ∷ e.0, ap (λ (l : Past). deed ∷ l) e.1)
 
+-- every move does
 extends_goes : (end : End) (before past : Past) (move : Move) → IsQuiet move → IsRun end past × Extends before past → has_ended past ≡ false → May end past move → IsRun end (after_move past move) × Extends before (after_move past move)
 extends_goes end before past (Ticks sight) quiet h alive may = absurd quiet
 extends_goes end before past (Makes ch m) quiet h alive may =
@@ -50,11 +52,13 @@ extends_goes end before past (Hears entry) quiet h alive may = absurd quiet
 extends_goes end before past (Hands d) quiet h alive may = absurd quiet
 extends_goes end before past (Ends g) quiet h alive may = (does (Ends g) h.0 alive may, one_more before past (Ended g) h.1)
 
+-- so does every run of moves
 extending : (end : End) (before : Past) → Goes end (λ (past : Past). IsRun end past × Extends before past)
 extending end before = record { is_run = λ past h. h.0; goes = extends_goes end before }
 
 -- ---- a packet under way
 
+-- the past is packet n, taken on top of this one
 abbrev Under : ℕ → Past → Past → Type 0
 Under n rest now = (es : List Entry) × ((ds : List Delivered) × (now ≡ Took n es ds ∷ rest))
 
@@ -69,12 +73,15 @@ pub record Closes (n : ℕ) (rest now : Past) : Type 0 where
 abbrev Heard : ℕ → Past → Past → Type 0
 Heard n rest now = Under n rest now ⊎ Closes n rest now
 
+-- so it is with one more payload
 under_handed : (n : ℕ) (rest : Past) (d : Delivered) (now : Past) → Under n rest now → Under n rest (with_handed d now)
 under_handed n rest d now u = (u.0, (d ∷ u.1.0, ap (with_handed d) u.1.1))
 
+-- and with one more entry
 under_told : (n : ℕ) (rest : Past) (entry : Entry) (now : Past) → Under n rest now → Under n rest (with_told entry now)
 under_told n rest entry now u = (entry ∷ u.0, (u.1.0, ap (with_told entry) u.1.1))
 
+-- entries that are heard leave it on top, or the end has ended
 entries_heard : (end : End) (n : ℕ) (rest : Past) (entries : List Entry) (now : Past) → Under n rest now → Heard n rest (after_entries end now entries)
 entries_heard end n rest [] now u = inl u
 entries_heard end n rest (entry ∷ more) now u =
@@ -88,15 +95,18 @@ entries_heard end n rest (entry ∷ more) now u =
     by None h = h
     by (Some cause) h = inr (record { cause = cause; past = (entry_result end now entry).past; under = stays; is = refl })
 
+-- so does a packet
 packet_heard : (end : End) (past : Past) (p : Packet) → Heard (unsigned_abs (number_near past p.number)) past (after_packet end past p)
 packet_heard end past p =
     entries_heard end (unsigned_abs (number_near past p.number)) past (entries_in end.version p) (Took (unsigned_abs (number_near past p.number)) [] [] ∷ past) ([], ([], refl))
 
+-- what was heard extends the past
 heard_extends : (n : ℕ) (rest now : Past) → Heard n rest now → Extends rest now
 heard_extends n rest now (inl u) = (Took n u.0 u.1.0 ∷ [], u.1.1)
 heard_extends n rest now (inr c) =
     (Ended (ByCause c.cause) ∷ Took n c.under.0 c.under.1.0 ∷ [], c.is ∙ ap (λ (l : Past). Ended (ByCause c.cause) ∷ l) c.under.1.1)
 
+-- so does a datagram, read or refused
 reading_extends : (end : End) (past : Past) (r : Result Packet (ℕ × Why)) → Extends past (after_reading end past r)
 reading_extends end past (Err bad) = ([], refl)
 reading_extends end past (Ok p) =
@@ -150,10 +160,12 @@ MomentAt left right from before (Ended g) = Unit {0}
 abbrev pub Moments : (left right : End) (from to : Past) → Type 0
 Moments left right from to = EachDeed (MomentAt left right from) to
 
+-- three lists one after another
 append_twice : (xs ys zs : Past) → xs ++ (ys ++ zs) ≡ (xs ++ ys) ++ zs
 append_twice [] ys zs = refl
 append_twice (x ∷ xs) ys zs = ap (λ (l : Past). x ∷ l) (append_twice xs ys zs)
 
+-- a moment stays one as the sender goes on
 moment_later : (left right : End) (from next : Past) → Extends from next → (before : Past) (deed : Deed) → MomentAt left right from before deed → MomentAt left right next before deed
 moment_later left right from next e before (Took n es ds) m = record {
   server = m.server;
@@ -171,6 +183,7 @@ moment_later left right from next e before (Waits x) m = tt
 moment_later left right from next e before (Sent n t items) m = tt
 moment_later left right from next e before (Ended g) m = tt
 
+-- so do all
 moments_later : (left right : End) (from next : Past) → Extends from next → (to : Past) → Moments left right from to → Moments left right next to
 moments_later left right from next e [] h = tt
 moments_later left right from next e (deed ∷ to) h = (moment_later left right from next e to deed h.0, moments_later left right from next e to h.1)
@@ -187,6 +200,7 @@ quiet_moments left right from past (Hears entry) quiet h alive may = absurd quie
 quiet_moments left right from past (Hands d) quiet h alive may = absurd quiet
 quiet_moments left right from past (Ends g) quiet h alive may = (does (Ends g) h.0 alive may, (tt, h.1))
 
+-- moves that take nothing keep the moments
 quiet_goes : (left right : End) (from : Past) → Goes right (λ (past : Past). IsRun right past × Moments left right from past)
 quiet_goes left right from = record { is_run = λ past h. h.0; goes = quiet_moments left right from }
 

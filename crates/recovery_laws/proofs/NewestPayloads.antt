@@ -47,6 +47,7 @@ pub quiet_stays : (a : ℕ) (ds : List Delivered) → AllByRecursion (IsQuietOf 
 quiet_stays a [] h = tt
 quiet_stays a (d ∷ ds) h = (h.0.0, quiet_stays a ds h.1)
 
+-- quiet payloads open nothing
 quiet_opens : (a : ℕ) (ds : List Delivered) → AllByRecursion (IsQuietOf a) ds → AllByRecursion (λ (d : Delivered). class_opened a d ≡ None) ds
 quiet_opens a [] h = tt
 quiet_opens a (d ∷ ds) h = (h.0.1, quiet_opens a ds h.1)

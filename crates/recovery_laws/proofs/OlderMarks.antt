@@ -26,10 +26,12 @@ use Rattle.recovery_laws.proofs.HandedInOrder.{handed_count, index_append}
 
 -- ---- ends of one list
 
+-- each message has at least one part
 each_part : (ms : List Numbered) → length ms ≤ parts_in ms
 each_part [] = omega arith
 each_part (x ∷ ms) = omega (arith, some_parts x.1, each_part ms)
 
+-- of two beginnings the one with fewer parts is the shorter
 ends_by_parts : (xs ys us vs : List Numbered) → xs ++ ys ≡ us ++ vs → parts_in ys ≤ parts_in vs → length ys ≤ length vs
 ends_by_parts xs ys us vs e le = elim (cases_lt (length vs) (length ys)) [
   | inr ge ↦ ge
@@ -47,6 +49,7 @@ ends_by_parts xs ys us vs e le = elim (cases_lt (length vs) (length ys)) [
 abbrev UpTo : (server client : Past) → (ch num : ℕ) → Type 0
 UpTo server client ch num = (newer : List Numbered) (x : Numbered) (older : List Numbered) → on_index ch server ≡ newer ++ x ∷ older → x.0 ≤ num → length older < length (from_index ch (delivered_of client))
 
+-- what is in a trail was handed on up to its number
 up_to : (end right : End) (server client : Past) → IsRun end server → HandsReceived right client → (ch : ℕ) (made : Numbered) → IsReceived server client ch made → UpTo server client ch made.0
 up_to end right server client run hands ch made r newer x older e le =
     let row_x = row_at newer x older (subst InRow e (rows end server run ch).row) in
@@ -72,13 +75,16 @@ up_to end right server client run hands ch made r newer x older e le =
 abbrev Covered : (server client : Past) → Mark → Type 0
 Covered server client mark = (num : ℕ) × (mark.number ≤ num) × UpTo server client mark.channel num
 
+-- the message was received whole
 abbrev Received : (server client : Past) → Mark → Type 0
 Received server client mark = is_closing mark.message ≡ true → IsReceived server client mark.channel (mark.number, mark.message)
 
+-- the messages are the first of their index
 abbrev First : (server client : Past) → List Mark → Type 0
 First server client [] = Unit {0}
 First server client (mark ∷ marks) = (is_closing mark.message ≡ true) ⊎ Covered server client mark
 
+-- a dormant close is a close
 sleeps_closes : (m : Message) → is_sleeping m ≡ true → is_closing m ≡ true
 sleeps_closes (Closes b s) e = refl
 sleeps_closes (Opens es b k vs) e = absurd (false≢true e)

@@ -51,6 +51,7 @@ record ShownOpen (past : Past) (a : ℕ) (class : Class) (values : List Pair) : 
   class_is : class ≡ seen.class
   values_are : values ≡ seen.values
 
+-- an open shows its class and values
 shown_open : (past : Past) (exports : List Segment) (a : ℕ) (class : Class) (values : List Pair) → OpensSeen past (Opens exports a class values) → ShownOpen past a class values
 shown_open past exports a class values o = record {
   i = o.shown.0;

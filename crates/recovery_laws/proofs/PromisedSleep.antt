@@ -37,6 +37,7 @@ slept_by end a (Made c k (Closes b true) zero ∷ newer) ch n older fit none = b
     by true e ih = absurd (let never : Some (let mark : Mark = record { channel = c; number = k; message = Closes b true } in mark) ≡ None = e in cc)
     by false e ih = ih
 
+-- a pair of a list stands between two parts of it
 split_at : (pair : Pair) (pairs : List Pair) → Contains pairs pair → (before after : List Pair) × (pairs ≡ before ++ pair ∷ after)
 split_at pair [] c = absurd (omega (arith, c.1))
 split_at pair (p ∷ pairs) (zero, lt, e) = ([], pairs, ap (λ (x : Pair). x ∷ pairs) e)

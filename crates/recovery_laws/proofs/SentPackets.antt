@@ -26,6 +26,7 @@ pub record SentAt (past : Past) (k : ℕ) : Type 0 where
   pub earlier : Past
   pub split : past ≡ later ++ Sent k tick items ∷ earlier
 
+-- what was sent below a deed was sent
 sent_behind : (past : Past) (k : ℕ) (deed : Deed) → SentAt past k → SentAt (deed ∷ past) k
 sent_behind past k deed s = record { later = deed ∷ s.later; tick = s.tick; items = s.items; earlier = s.earlier; split = ap (λ (l : Past). deed ∷ l) s.split }
 
@@ -57,6 +58,7 @@ sent_least (Sent n x others ∷ later) k t items earlier = omega (arith, greates
 
 -- ---- the items of a packet
 
+-- a packet not sent yet has no items
 items_above : (end : End) (past : Past) → DeedsFit end past → (k : ℕ) → last_sent past < k → items_of past k ≡ []
 items_above end [] fit k lt = refl
 items_above end (Ticked t s ∷ past) fit k lt = items_above end past fit.1 k lt
@@ -120,12 +122,14 @@ made_before (Waits m ∷ past) k ch = made_before past k ch
 made_before (Took n es ds ∷ past) k ch = made_before past k ch
 made_before (Ended g ∷ past) k ch = made_before past k ch
 
+-- the count of bunches grows
 count_grows : (c n : ℕ) (m : Message) (i : ℕ) (past : Past) (ch : ℕ) → made_count past ch ≤ made_count (Made c n m i ∷ past) ch
 count_grows c n m i past ch = elim (cases_eq c ch) [
   | inl e ↦ subst (λ (x : ℕ). made_count past ch ≤ made_count (Made x n m i ∷ past) ch) (sym e) (omega (arith, made_count_same ch n m i past))
   | inr e ↦ omega (arith, made_count_other ch c n m i past e)
 ]
 
+-- what was made before is at most what is made now
 made_before_most : (past : Past) (k ch : ℕ) → made_before past k ch ≤ made_count past ch
 made_before_most [] k ch = omega arith
 made_before_most (Ticked t s ∷ past) k ch = made_before_most past k ch
@@ -176,6 +180,7 @@ items_behind P nil end (Sent x t items ∷ front) parts ch n m older all made fi
 
 -- ---- a bunch that a packet carried was made before that packet and before each later one
 
+-- a bunch that packet k says was sent first in packet j, not after it
 said_at : (v : Version) (end : End) (later : Past) (k t : ℕ) (items : List Item) (earlier : Past) → DeedsFit end (later ++ Sent k t items ∷ earlier) → (j : ℕ) → j ≤ k
     → said_by v (later ++ Sent k t items ∷ earlier) j ≡ said_by v (Sent k t items ∷ earlier) j
 said_at v end [] k t items earlier fit j le = refl
@@ -189,6 +194,7 @@ said_at v end (Sent n x others ∷ later) k t items earlier fit j le =
     (ne_eqb n j (λ e. absurd (omega (arith, e, le, fit.0.0, sent_least later k t items earlier))))
     ∙ said_at v end later k t items earlier fit.1 j le
 
+-- the deeds below one fit
 fit_behind : (end : End) (later past : Past) → DeedsFit end (later ++ past) → DeedsFit end past
 fit_behind end [] past fit = fit
 fit_behind end (deed ∷ later) past fit = fit_behind end later past fit.1

@@ -29,10 +29,12 @@ ArePairsOf world a pairs = AllByRecursion (λ (p : Pair). p.value ≡ world a p.
 
 -- ---- a sight
 
+-- a sight's pairs have the values that the player sees
 visible_are : (table : Table) (edits : Edits) (player a : ℕ) (hs : List (ℕ × Prop)) → ArePairsOf (seen_value table edits player) a (map (λ (e : ℕ × Prop). record { handle = e.0; value = seen_value table edits player a e.0 }) hs)
 visible_are table edits player a [] = tt
 visible_are table edits player a (e ∷ hs) = (refl, visible_are table edits player a hs)
 
+-- so have those of an entry
 entry_values : (table : Table) (edits : Edits) (player a : ℕ) (seen : Seen) (r d : Bool) → cond r (Some (seen_of table edits player a)) (cond d (Some (destroyed_of table edits a)) None) ≡ Some seen → ArePairsOf (seen_value table edits player) seen.actor seen.values
 entry_values table edits player a seen true d e =
     subst (λ (s : Seen). ArePairsOf (seen_value table edits player) s.actor s.values) (same_some (seen_of table edits player a) seen e)
@@ -40,6 +42,7 @@ entry_values table edits player a seen true d e =
 entry_values table edits player a seen false true e = subst (λ (s : Seen). ArePairsOf (seen_value table edits player) s.actor s.values) (same_some (destroyed_of table edits a) seen e) tt
 entry_values table edits player a seen false false e = absurd (let never : (let o : Option Seen = None in o) ≡ Some seen = e in cc)
 
+-- so have those of each entry
 sight_values : (table : Table) (edits : Edits) (player : ℕ) (earlier : List ℕ) (i : ℕ) (seen : Seen) → slice_get (sight table edits player earlier) i ≡ Some seen → ArePairsOf (seen_value table edits player) seen.actor seen.values
 sight_values table edits player earlier i seen e =
     let r = from (entry_of table edits player earlier) (actors_of edits) i seen e in
@@ -74,11 +77,13 @@ seen_at table player edits later past h i seen e =
 
 -- ---- updates
 
+-- what holds of a list holds of what is taken of it
 all_taken : {A : Type 0} (P : A → Type 0) (n : ℕ) (xs : List A) → AllByRecursion P xs → AllByRecursion P (take n xs)
 all_taken P zero xs h = tt
 all_taken P (suc n) [] h = tt
 all_taken P (suc n) (x ∷ xs) h = (h.0, all_taken P n xs h.1)
 
+-- and of its longest prefix
 all_in_prefix : {A : Type 0} (P : A → Type 0) (test : List A → Bool) (most : ℕ) (xs : List A) → AllByRecursion P xs → AllByRecursion P (longest_prefix test most xs)
 all_in_prefix P test zero xs h = tt
 all_in_prefix P test (suc most) xs h = cond_both (test (take (suc most) xs)) (take (suc most) xs) (longest_prefix test most xs) (AllByRecursion P) (λ e. all_taken P (suc most) xs h) (λ e. all_in_prefix P test most xs h)
@@ -89,6 +94,7 @@ update_all P at seen h =
     all_in_prefix P (λ pairs. nat_le (length (message_bits (update_message seen pairs))) 6000) (length (due_pairs at seen)) (due_pairs at seen)
     (all_filtered P (is_due_pair at seen.actor) (updatable_pairs seen) h)
 
+-- the value among such pairs is the one seen
 value_of_pairs : (world : ℕ → ℕ → ℤ) (a h : ℕ) (v : ℤ) (pairs : List Pair) → ArePairsOf world a pairs → value_among pairs h ≡ Some v → v ≡ world a h
 value_of_pairs world a h v [] all e = absurd (let never : (let o : Option ℤ = None in o) ≡ Some v = e in cc)
 value_of_pairs world a h v (p ∷ pairs) all e = by (p.handle == h) refl e (λ q. value_of_pairs world a h v pairs all.1 q)

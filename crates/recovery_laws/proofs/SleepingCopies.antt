@@ -63,9 +63,11 @@ use Rattle.recovery_laws.proofs.LastSleep.{SleepLast, sleep_last, all_free, carr
 
 -- ---- quiet messages
 
+-- the message neither opens nor updates the actor
 abbrev QuietSaid : ℕ → Message → Type 0
 QuietSaid a m = (removes_said a m ≡ false) × (opens_said a m ≡ None)
 
+-- an unreliable message of another actor is so
 plain_quiet : (a : ℕ) (m : Message) → IsPlain m → QuietSaid a m
 plain_quiet a (Opens es b k vs) p = absurd p
 plain_quiet a (Closes b s) p = absurd p
@@ -73,6 +75,7 @@ plain_quiet a (Gone b) p = absurd p
 plain_quiet a (Updates b k vs) p = (refl, refl)
 plain_quiet a (Calls b n k vs) p = (refl, refl)
 
+-- so is one without a mark
 unmarked_quiet : (a : ℕ) (m : Message) → marks_it a m ≡ false → QuietSaid a m
 unmarked_quiet a (Opens es b k vs) e = (refl, by (b == a) e)
   where
@@ -92,6 +95,7 @@ unmarked_quiet a (Gone b) e = (by (b == a) e, refl)
 unmarked_quiet a (Updates b k vs) e = (refl, refl)
 unmarked_quiet a (Calls b n k vs) e = (refl, refl)
 
+-- so is the close itself
 close_quiet : (a : ℕ) → QuietSaid a (Closes a true)
 close_quiet a = (by (a == a), refl)
   where
@@ -122,6 +126,7 @@ index_quiet a c (Made d n m i ∷ past) h = by ((d == c) && (i == 0)) refl (inde
 
 -- ---- lists
 
+-- an item of a list stands between two parts of it
 among_split : {A : Type 0} (x : A) (xs : List A) → IsIn x xs → (front : List A) × ((back : List A) × (xs ≡ front ++ x ∷ back))
 among_split x [] h = absurd h
 among_split {A} x (y ∷ xs) (inl e) = ([], (xs, ap (λ (z : A). z ∷ xs) e))
@@ -129,6 +134,7 @@ among_split {A} x (y ∷ xs) (inr h) = (let r = among_split x xs h in (y ∷ r.0
 
 -- ---- the packet that handed on the open
 
+-- where the client took the payload, and what it had then
 record TookWhere (client : Past) (ch j : ℕ) : Type 0 where
   later : Past
   number : ℕ
@@ -151,6 +157,7 @@ where_behind past ch j deed w = record {
   high = w.high;
 }
 
+-- each whole payload was taken somewhere
 took_where : (client : Past) (ch j : ℕ) → j < length (from_index ch (delivered_of client)) → TookWhere client ch j
 took_where [] ch j lt = absurd (omega (arith, lt))
 took_where (Ticked t s ∷ past) ch j lt = where_behind past ch j (Ticked t s) (took_where past ch j lt)
@@ -165,6 +172,7 @@ took_where (Took n es ds ∷ past) ch j lt = elim (cases_lt j (length (from_inde
 
 -- ---- what an opening's index has
 
+-- a close on one channel is none on another
 other_index : (past : Past) (a : ℕ) (o : OpenedAt past a) (c : ℕ) → (o.channel ≡ c → ⊥) → on_index c past ≡ on_index c o.newer ++ on_index c o.older
 other_index past a o c ne =
     ap (on_index c) o.split ∙ index_append c o.newer (Made o.channel o.number (Opens o.exports a o.class o.values) 0 ∷ o.older)
@@ -196,6 +204,7 @@ record Dozes (past : Past) (a : ℕ) : Type 0 where
   shown : seen_in (sight_of past) a ≡ Some seen
   settled : is_settled_as past seen ≡ true
 
+-- an actor asleep has such a close
 dozes : (past : Past) (a : ℕ) → is_shown (λ (seen : Seen). seen.dormant && is_settled_as past seen) (seen_in (sight_of past) a) ≡ true → Dozes past a
 dozes past a h = by (seen_in (sight_of past) a) refl h
   where
@@ -208,6 +217,7 @@ record SettledFacts (past : Past) (seen : Seen) : Type 0 where
   opened : is_opened (state_of past seen.actor) ≡ true
   carried : list_all (is_carried past seen.actor) (updatable_pairs seen) ≡ true
 
+-- what a settled actor's sight says
 settled_facts : (past : Past) (seen : Seen) → is_settled_as past seen ≡ true → SettledFacts past seen
 settled_facts past seen h =
     let one = and_parts (is_opened (state_of past seen.actor) && seen.relevant && is_clear past (index_of past seen.actor)) (list_all (is_carried past seen.actor) (updatable_pairs seen)) h in
