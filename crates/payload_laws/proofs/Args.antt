@@ -23,9 +23,11 @@ octets_read (b ∷ bytes) rest h =
     ∙ then_read (fixed_at 8) with_bytes (fixed_bits 8 b ++ back) b back (Ok (b ∷ bytes, rest)) (fixed_read 8 b back (ltb-true b 256 (and_parts _ _ h).0))
     (then_read (octets_at (length bytes)) (λ bytes. give (b ∷ bytes)) back bytes rest (Ok (b ∷ bytes, rest)) (octets_read bytes rest (and_parts _ _ h).1) refl)
 
+-- bytes of an argument are at most 2,048
 small_most : (most : ℕ) → is_type true (Bytes most) ≡ true → most ≤ 2048
 small_most most h = leb-true most 2048 (and_parts (nat_le 1 most) (nat_le most 2048) h).1
 
+-- an argument of bytes
 octets_arg_read : (most : ℕ) (bytes : List ℕ) (rest : List Bool) → most ≤ 2048 → are_octets most bytes ≡ true → octets_arg_at most (int_bits (most + 1) (length bytes) ++ octets_bits bytes ++ rest) ≡ Ok (Octets bytes, rest)
 octets_arg_read most bytes rest m h =
     let few : length bytes ≤ most = leb-true (length bytes) most (and_parts _ _ h).0 in
@@ -35,6 +37,7 @@ octets_arg_read most bytes rest m h =
     ∙ then_read (int_at (most + 1)) with_bytes (int_bits (most + 1) (length bytes) ++ back) (length bytes) back (Ok (Octets bytes, rest)) (int_read (most + 1) (length bytes) back (omega (arith, few)) (omega (arith, m)))
     (then_read (octets_at (length bytes)) (λ bytes. give (Octets bytes)) back bytes rest (Ok (Octets bytes, rest)) (octets_read bytes rest (and_parts _ _ h).1) refl)
 
+-- any other argument
 scalar_read : (kind : Kind) (v : ℤ) (rest : List Bool) → is_type true kind ≡ true → fits kind v ≡ true → scalar_at kind (value_bits kind v ++ rest) ≡ Ok (Scalar v, rest)
 scalar_read kind v rest k f = then_read (value_at kind) (λ v. give (Scalar v)) (value_bits kind v ++ rest) v rest (Ok (Scalar v, rest)) (value_read true kind v rest k f) refl
 

@@ -14,34 +14,43 @@ use Rattle.payload_laws.specs.Applied.{Applied, Stays}
 
 -- ---- the newest item
 
+-- the newest answer is the first item's, if it has one
 newest_there : {A B : Type 0} (f : A → Option B) (x : A) (xs : List A) (y : B) → f x ≡ Some y → newest_of f (x ∷ xs) ≡ Some y
 newest_there f x xs y e = rw e refl
 
+-- else that of the others
 newest_later : {A B : Type 0} (f : A → Option B) (x : A) (xs : List A) → f x ≡ None → newest_of f (x ∷ xs) ≡ newest_of f xs
 newest_later f x xs e = rw e refl
 
 -- ---- what was applied since
 
+-- a payload that removes no copy is one more since the last removal
 since_more : (past later : Past) (d : Delivered) (a : ℕ) → Applied past later d → removes a d ≡ false → since_removed later a ≡ d ∷ since_removed past a
 since_more past later d a e r = ap (items_since (removes a)) e ∙ rw r refl
 
+-- one that does leaves none
 since_none : (past later : Past) (d : Delivered) (a : ℕ) → Applied past later d → removes a d ≡ true → since_removed later a ≡ []
 since_none past later d a e r = ap (items_since (removes a)) e ∙ rw r refl
 
 -- ---- a copy by what the payload says of it
 
+-- a payload that opens sets the class
 class_there : (past later : Past) (d : Delivered) (a : ℕ) (class : Class) → Applied past later d → removes a d ≡ false → class_opened a d ≡ Some class → copy_class later a ≡ Some class
 class_there past later d a class e r c = ap (newest_of (class_opened a)) (since_more past later d a e r) ∙ newest_there (class_opened a) d (since_removed past a) class c
 
+-- one that neither opens nor removes leaves it
 class_same : (past later : Past) (d : Delivered) (a : ℕ) → Applied past later d → removes a d ≡ false → class_opened a d ≡ None → copy_class later a ≡ copy_class past a
 class_same past later d a e r c = ap (newest_of (class_opened a)) (since_more past later d a e r) ∙ newest_later (class_opened a) d (since_removed past a) c
 
+-- one that removes leaves none
 class_none : (past later : Past) (d : Delivered) (a : ℕ) → Applied past later d → removes a d ≡ true → copy_class later a ≡ None
 class_none past later d a e r = ap (newest_of (class_opened a)) (since_none past later d a e r)
 
+-- a payload that says a channel sets it
 channel_there : (past later : Past) (d : Delivered) (a : ℕ) (o : Option ℕ) → Applied past later d → removes a d ≡ false → channel_said a d ≡ Some o → copy_channel later a ≡ o
 channel_there past later d a o e r c = ap (λ (x : Option (Option ℕ)). unwrap_or x None) (ap (newest_of (channel_said a)) (since_more past later d a e r) ∙ newest_there (channel_said a) d (since_removed past a) o c)
 
+-- any other leaves it
 channel_same : (past later : Past) (d : Delivered) (a : ℕ) → Applied past later d → removes a d ≡ false → channel_said a d ≡ None → copy_channel later a ≡ copy_channel past a
 channel_same past later d a e r c = ap (λ (x : Option (Option ℕ)). unwrap_or x None) (ap (newest_of (channel_said a)) (since_more past later d a e r) ∙ newest_later (channel_said a) d (since_removed past a) c)
 
@@ -49,11 +58,13 @@ channel_same past later d a e r c = ap (λ (x : Option (Option ℕ)). unwrap_or 
 pub channel_none : (past later : Past) (d : Delivered) (a : ℕ) → Applied past later d → removes a d ≡ true → copy_channel later a ≡ None
 channel_none past later d a e r = ap (λ (x : Option (Option ℕ)). unwrap_or x None) (ap (newest_of (channel_said a)) (since_none past later d a e r))
 
+-- a payload that applies a value sets it
 value_there : (past later : Past) (d : Delivered) (a h : ℕ) (v : ℤ) → Applied past later d → removes a d ≡ false → value_applied a h d ≡ Some v → copy_value later a h ≡ v
 value_there past later d a h v e r c =
     ap (λ (x : Option ℤ). unwrap_or x (unwrap_or (option_map (λ (class : Class). initial_value class h) (copy_class later a)) (pos 0)))
     (ap (newest_of (value_applied a h)) (since_more past later d a e r) ∙ newest_there (value_applied a h) d (since_removed past a) v c)
 
+-- any other leaves it
 value_same : (past later : Past) (d : Delivered) (a h : ℕ) → Applied past later d → removes a d ≡ false → value_applied a h d ≡ None → copy_class later a ≡ copy_class past a → copy_value later a h ≡ copy_value past a h
 value_same past later d a h e r c k =
     ap (λ (x : Option ℤ). unwrap_or x (unwrap_or (option_map (λ (class : Class). initial_value class h) (copy_class later a)) (pos 0)))
@@ -62,6 +73,7 @@ value_same past later d a h e r c k =
 
 -- ---- what each message says
 
+-- a number is equal to itself
 itself : (a : ℕ) → (a == a) ≡ true
 itself a = eq-eqb a a refl
 
@@ -79,12 +91,15 @@ opens_channel d exports actor class values m = rw (m, itself actor) refl
 pub opens_value : (d : Delivered) (exports : List Segment) (actor : ℕ) (class : Class) (values : List Pair) (h : ℕ) → d.message ≡ Opens exports actor class values → value_applied actor h d ≡ value_among values h
 opens_value d exports actor class values h m = rw (m, itself actor) refl
 
+-- an update neither removes nor opens, and says no channel
 updates_keeps : (d : Delivered) (actor : ℕ) (class : Class) (values : List Pair) (a : ℕ) → d.message ≡ Updates actor class values → (removes a d ≡ false) × (class_opened a d ≡ None) × (channel_said a d ≡ None)
 updates_keeps d actor class values a m = (rw m refl, rw m refl, rw m refl)
 
+-- it applies its own values
 updates_value : (d : Delivered) (actor : ℕ) (class : Class) (values : List Pair) (h : ℕ) → d.message ≡ Updates actor class values → value_applied actor h d ≡ value_among values h
 updates_value d actor class values h m = rw (m, itself actor) refl
 
+-- a dormant close neither removes nor opens
 sleeps_keeps : (d : Delivered) (actor a : ℕ) → d.message ≡ Closes actor true → (removes a d ≡ false) × (class_opened a d ≡ None)
 sleeps_keeps d actor a m = (rw m (last (actor == a)), rw m refl)
   where
@@ -92,6 +107,7 @@ sleeps_keeps d actor a m = (rw m (last (actor == a)), rw m refl)
     last true = refl
     last false = refl
 
+-- it says that there is no channel
 sleeps_channel : (d : Delivered) (actor : ℕ) → d.message ≡ Closes actor true → channel_said actor d ≡ Some None
 sleeps_channel d actor m = rw (m, itself actor) refl
 
@@ -110,6 +126,7 @@ pub record Silent (d : Delivered) (a : ℕ) : Type 0 where
   pub channel : channel_said a d ≡ None
   pub value : (h : ℕ) → value_applied a h d ≡ None
 
+-- a payload of another actor says nothing of this one
 other_by : (d : Delivered) (a : ℕ) (message : Message) → d.message ≡ message → (actor_of message == a) ≡ false → Silent d a
 other_by d a (Opens exports actor class values) m o = record { keeps = rw m refl; class = rw (m, o) refl; channel = rw (m, o) refl; value = λ h. rw (m, o) refl }
 other_by d a (Closes actor sleeps) m o = record { keeps = rw (m, o) refl; class = rw m refl; channel = rw (m, o) refl; value = λ h. rw m refl }
@@ -117,12 +134,15 @@ other_by d a (Updates actor class values) m o = record { keeps = rw m refl; clas
 other_by d a (Calls actor number call args) m o = record { keeps = rw m refl; class = rw m refl; channel = rw m refl; value = λ h. rw m refl }
 other_by d a (Gone actor) m o = record { keeps = rw (m, o) refl; class = rw m refl; channel = rw m refl; value = λ h. rw m refl }
 
+-- so it is for each message
 other_silent : (d : Delivered) (a : ℕ) → (actor_of d.message == a) ≡ false → Silent d a
 other_silent d a o = other_by d a d.message refl o
 
+-- a call says nothing of any copy
 call_silent : (d : Delivered) (actor number : ℕ) (call : Call) (args : List Arg) (a : ℕ) → d.message ≡ Calls actor number call args → Silent d a
 call_silent d actor number call args a m = record { keeps = rw m refl; class = rw m refl; channel = rw m refl; value = λ h. rw m refl }
 
+-- what says nothing of a copy leaves it
 silent_stays : (past later : Past) (d : Delivered) (a : ℕ) → Applied past later d → Silent d a → Stays past later a
 silent_stays past later d a e s =
     let class = class_same past later d a e s.keeps s.class in

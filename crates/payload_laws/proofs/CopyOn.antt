@@ -17,6 +17,7 @@ or_same true false z = refl
 or_same false true z = refl
 or_same false false z = refl
 
+-- an insertion adds its item
 among_insert : (a x : ℕ) (ys : List ℕ) → is_among a (insert_in_order nat_lt x ys) ≡ (x == a || is_among a ys)
 among_insert a x [] = refl
 among_insert a x (y ∷ ys) = by_order (nat_lt y x) (among_insert a x ys)
@@ -25,10 +26,12 @@ among_insert a x (y ∷ ys) = by_order (nat_lt y x) (among_insert a x ys)
     by_order true e = ap (λ (t : Bool). y == a || t) e ∙ or_same (y == a) (x == a) (is_among a ys)
     by_order false e = refl
 
+-- an ordered list has the same items
 among_order : (a : ℕ) (ns : List ℕ) → is_among a (in_order nat_lt ns) ≡ is_among a ns
 among_order a [] = refl
 among_order a (n ∷ ns) = among_insert a n (in_order nat_lt ns) ∙ ap (λ (t : Bool). n == a || t) (among_order a ns)
 
+-- so has a list with each item once
 among_once : (a : ℕ) (ns : List ℕ) → is_among a ns ≡ true → is_among a (each_once ns) ≡ true
 among_once a [] h = h
 among_once a (n ∷ ns) h = by_test (is_among n ns) refl (n == a) refl h (λ k. among_once a ns k)
@@ -39,6 +42,7 @@ among_once a (n ∷ ns) h = by_test (is_among n ns) refl (n == a) refl h (λ k. 
     by_test false e true t h later = rw t refl
     by_test false e false t h later = or_right (n == a) (is_among a (each_once ns)) (later h)
 
+-- an item that passes the test stays
 among_filter : (p : ℕ → Bool) (a : ℕ) (ns : List ℕ) → is_among a ns ≡ true → p a ≡ true → is_among a (filter p ns) ≡ true
 among_filter p a [] h t = h
 among_filter p a (n ∷ ns) h t = by_test (p n) refl (n == a) refl h (λ k. among_filter p a ns k t)
@@ -101,6 +105,7 @@ opened_by a d (Updates actor class values) m h = let no : false ≡ true = rw m 
 opened_by a d (Calls actor number call args) m h = let no : false ≡ true = rw m at h in absurd (cc)
 opened_by a d (Gone actor) m h = let no : false ≡ true = rw m at h in absurd (cc)
 
+-- an actor with a copy was opened
 among_opened : (a : ℕ) (ds : List Delivered) → is_some (newest_of (class_opened a) (items_since (removes a) ds)) ≡ true → is_among a (filter_map actor_opened ds) ≡ true
 among_opened a [] h = absurd (cc)
 among_opened a (d ∷ ds) h = by_removed (removes a d) refl h (λ k. among_opened a ds k)
@@ -127,9 +132,11 @@ copied past a h =
     let opened : List ℕ = filter_map actor_opened (delivered_of past) in
     among_filter (has_copy past) a (ascending_numbers opened) (among_order a (each_once opened) ∙ among_once a opened (among_opened a (delivered_of past) h)) h
 
+-- a copy with this channel is on it
 on_is : (ch : ℕ) (o : Option ℕ) → o ≡ Some ch → is_on ch o ≡ true
 on_is ch o e = rw e (eq-eqb ch ch refl)
 
+-- and the other way round
 on_of : (ch : ℕ) (o : Option ℕ) → is_on ch o ≡ true → o ≡ Some ch
 on_of ch None h = absurd (cc)
 on_of ch (Some n) h = ap (λ (k : ℕ). Some k) (eqb-true n ch h)
@@ -146,6 +153,7 @@ holder_is past ch a h =
     let f = found_is (λ a. is_on ch (copy_channel past a)) a (copied_actors past) h in
     (filter_passes (has_copy past) a (ascending_numbers (filter_map actor_opened (delivered_of past))) f.0, on_of ch (copy_channel past a) f.1)
 
+-- no copy answers where none is on the channel
 none_by : (past : Past) (ch : ℕ) (o : Option ℕ) → copy_on past ch ≡ o → ((a : ℕ) → has_copy past a ≡ true → copy_channel past a ≢ Some ch) → o ≡ None
 none_by past ch None e none = refl
 none_by past ch (Some a) e none = let is = holder_is past ch a e in absurd (none a is.0 is.1)

@@ -15,11 +15,13 @@ use Rattle.payload_laws.proofs.Learning.{AreOne, added}
 
 -- ---- names folded in
 
+-- names of the table with more of them learnt
 record Folded (segments names xs : List Segment) : Type 0 where
   pub among : AreAmong segments (fold names_with names xs)
   pub keeps : (t : Segment) → Knows names t → Knows (fold names_with names xs) t
   pub all : KnowsAll (fold names_with names xs) xs
 
+-- each is learnt without a clash
 folded : (segments names xs : List Segment) → AreOne segments → AreAmong segments names → StandAmong segments xs → Folded segments names xs
 folded segments names [] one among stand = record { among = among; keeps = λ t h. h; all = tt }
 folded segments names (s ∷ xs) one among stand =
@@ -41,6 +43,7 @@ knows_right : (names xs ys : List Segment) → KnowsAll names (xs ++ ys) → Kno
 knows_right names [] ys h = h
 knows_right names (x ∷ xs) ys h = knows_right names xs ys h.1
 
+-- all that these payloads exported, the oldest first
 exported : List Delivered → List Segment
 exported ds = flat_map names_in (reverse ds)
 
@@ -61,6 +64,7 @@ exported_known names (d ∷ ds) h =
     let parts : KnowsAll names (exported ds ++ (names_in d ++ [])) = subst (λ (xs : List Segment). KnowsAll names xs) (exported_is d ds) h in
     (knows_left names (names_in d) [] (knows_right names (exported ds) (names_in d ++ []) parts), exported_known names ds (knows_left names (exported ds) (names_in d ++ []) parts))
 
+-- at first no name is known
 no_names : (segments : List Segment) → AreAmong segments []
 no_names segments g s h = absurd (cc)
 

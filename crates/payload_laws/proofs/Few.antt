@@ -19,10 +19,12 @@ abbrev AreDistinct : List Segment → Type 0
 AreDistinct [] = ⊤
 AreDistinct (s ∷ names) = (name_known names s.guid ≡ None) × AreDistinct names
 
+-- a name is learnt once
 with_distinct : (names : List Segment) (s : Segment) (o : Option Segment) → name_known names s.guid ≡ o → AreDistinct names → AreDistinct (names_with names s)
 with_distinct names s None e d = let more : names_with names s ≡ s ∷ names = rw e refl in rw more (e, d)
 with_distinct names s (Some t) e d = let stays : names_with names s ≡ names = rw e refl in rw stays d
 
+-- so are all
 fold_distinct : (names exports : List Segment) → AreDistinct names → AreDistinct (fold names_with names exports)
 fold_distinct names [] d = d
 fold_distinct names (s ∷ exports) d = fold_distinct (names_with names s) exports (with_distinct names s (name_known names s.guid) refl d)
@@ -44,6 +46,7 @@ known_at (s ∷ names) (suc i) h = by_test (s.guid == guid_at names i) refl (kno
     by_test true e k = (s, refl)
     by_test false e k = k
 
+-- no two places have one guid
 apart : (names : List Segment) (i j : ℕ) → AreDistinct names → i < j → j < length names → guid_at names i ≡ guid_at names j → ⊥
 unfolding guid_at
 apart [] i j d h l e = omega (arith, l)
@@ -60,6 +63,7 @@ record NumberAt (names : List Segment) (i : ℕ) : Type 0 where
   pub below : number < 1024
   pub is : guid_at names i ≡ 2 * number + 3
 
+-- each place has the number of a segment
 number_at : (entries : List Entry) (names : List Segment) (i : ℕ) → IsTable entries → AreAmong (segments_of entries) names → i < length names → NumberAt names i
 number_at entries names i is among h =
     let k = known_at names i h in
@@ -68,13 +72,16 @@ number_at entries names i is among h =
     let same : k.0.guid ≡ guid_at names i = eqb-true k.0.guid (guid_at names i) (found_guid names (guid_at names i) k.0 k.1) in
     record { number = n.0; below = n.1; is = sym same ∙ n.2 }
 
+-- the number that a place's guid has
 place_of : (names : List Segment) (i : ℕ) → ℕ
 place_of names i = (guid_at names i - 3) / 2
 
+-- that is its segment's
 place_is : (names : List Segment) (i : ℕ) (n : NumberAt names i) → place_of names i ≡ n.number
 unfolding place_of
 place_is names i n = let is = n.is in omega (arith, is)
 
+-- of two numbers one is less, or they are equal
 order : (i j : ℕ) → (i < j → ⊥) → (j < i → ⊥) → i ≡ j
 order i j a b = by_test (nat_lt i j) (nat_lt j i) refl refl
   where

@@ -39,6 +39,7 @@ record Header (first : Bunch) : Type 0 where
   pub exports : implies first.exports first.opens ≡ true
   pub zero : (first.channel == 0 && (not first.reliable || first.opens || first.closes)) ≡ false
 
+-- what the rules of headers say
 header_of : (version : Version) (side : Side) (b : Bunch) → is_bunch version b ≡ true → is_misplaced side b ≡ false → Header b
 header_of version side b h m =
     let to_p = (and_parts _ _ (and_parts _ _ h).0).0 in
@@ -67,18 +68,21 @@ open_told false false false h = absurd (cc)
 open_told false true o h = absurd (cc)
 open_told true c o h = absurd (cc)
 
+-- a bunch that closes is read as a close alone
 close_told : (z c o : Bool) → cond z false (cond c true (cond o false false)) ≡ true → (z ≡ false) × (c ≡ true)
 close_told false true o h = (refl, refl)
 close_told false false true h = absurd (cc)
 close_told false false false h = absurd (cc)
 close_told true c o h = absurd (cc)
 
+-- a plain bunch is read as an update or a call
 plain_told : (z c o : Bool) → cond z false (cond c false (cond o false true)) ≡ true → (z ≡ false) × (c ≡ false) × (o ≡ false)
 plain_told false false false h = (refl, refl, refl)
 plain_told false false true h = absurd (cc)
 plain_told false true o h = absurd (cc)
 plain_told true c o h = absurd (cc)
 
+-- a bunch on channel 0 is read as a Gone
 gone_told : (z c o : Bool) → cond z true (cond c false (cond o false false)) ≡ true → z ≡ true
 gone_told true c o h = refl
 gone_told false true o h = absurd (cc)
@@ -102,6 +106,7 @@ zero_rules false r o c e h = absurd (cc)
 plain_begins : (first : Bunch) → Header first → first.opens ≡ false → first.closes ≡ false → (first.sleeps ≡ false) × (first.exports ≡ false)
 plain_begins first h o c = (implied_not first.sleeps first.closes h.dormant c, implied_not first.exports first.opens h.exports o)
 
+-- at a client
 client_begins : (table : Table) (past : Past) (first : Bunch) (bits : List Bool) (message : Message) → Header first → told AtClient first message ≡ true → Spells AtClient table past first bits message → Begins message first
 client_begins table past first bits (Opens exports actor class values) h t s =
     let f = open_told (first.channel == 0) first.closes first.opens t in
@@ -124,6 +129,7 @@ client_begins table past first bits (Gone actor) h t s =
     let p = plain_begins first h r.1 r.2 in
     record { opens = r.1; closes = r.2; sleeps = p.0; exports = p.1; reliable = r.0; channel = z }
 
+-- at a server
 server_begins : (table : Table) (past : Past) (first : Bunch) (bits : List Bool) (message : Message) → Header first → first.opens ≡ false → first.closes ≡ false → told AtServer first message ≡ true → Spells AtServer table past first bits message → Begins message first
 server_begins table past first bits (Opens exports actor class values) h o c t s = let no : false ≡ true = (and_parts (not (first.channel == 0)) false t).1 in absurd (cc)
 server_begins table past first bits (Closes actor sleeps) h o c t s = let no : false ≡ true = (and_parts (not (first.channel == 0)) false t).1 in absurd (cc)
@@ -135,6 +141,7 @@ server_begins table past first bits (Calls actor number call args) h o c t s =
     let p = plain_begins first h o c in
     record { opens = o; closes = c; sleeps = p.0; exports = p.1; reliable = s.1; channel = not-true (first.channel == 0) (and_parts _ _ t).0 }
 
+-- at either
 begins_at : (side : Side) (table : Table) (past : Past) (first : Bunch) (bits : List Bool) (message : Message) (version : Version) → is_bunch version first ≡ true → is_misplaced side first ≡ false → told side first message ≡ true → Spells side table past first bits message → Begins message first
 begins_at AtClient table past first bits message version b m t s = client_begins table past first bits message (header_of version AtClient first b m) t s
 begins_at AtServer table past first bits message version b m t s = let p = server_plain first m in server_begins table past first bits message (header_of version AtServer first b m) p.0 p.1 t s

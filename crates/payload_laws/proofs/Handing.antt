@@ -25,6 +25,7 @@ closing_one (Updates actor class values) h = refl
 closing_one (Calls actor number call args) h = refl
 closing_one (Gone actor) h = refl
 
+-- no part is too long
 not_oversize : (ch n : ℕ) (message : Message) (i : ℕ) → nat_lt 7000 (length (made_bunch ch n message i).payload) ≡ false
 not_oversize ch n message i = le-ltb 7000 (length (piece_at (message_bits message) i)) (omega (arith, piece_length (message_bits message) i))
 
@@ -42,25 +43,32 @@ some_bits ch n message i s h =
     let needed = (counted (length bits)).needed i s h in
     not_zero (length (piece_at bits i)) (omega (arith, piece_length bits i, needed))
 
+-- fewer than ten parts are kept before one
 few : (kept : List Bunch) (i : ℕ) → length kept ≡ i → i < 10 → nat_le 10 (length kept) ≡ false
 few kept i e h = grind (arith, nat_tests)
 
+-- behind the first part some are kept
 are_kept : (kept : List Bunch) (i : ℕ) → length kept ≡ i → 0 < i → nat_lt 0 (length kept) ≡ true
 are_kept kept i e h = lt-ltb 0 (length kept) (omega (arith, e, h))
 
+-- a later part opens nothing
 later_opens : (message : Message) (i : ℕ) → 0 < i → (is_opening message && i == 0) ≡ false
 later_opens message i h = rw (not_zero i h) (and-false (is_opening message))
 
+-- a whole message breaks no rule
 fault_whole : (ch n : ℕ) (message : Message) → part_fault [] (made_bunch ch n message 0) Whole ≡ None
 fault_whole ch n message = rw (not_oversize ch n message 0) refl
 
+-- nor does the first part
 fault_first : (ch n : ℕ) (message : Message) → 1 < parts_of message → part_fault [] (made_bunch ch n message 0) First ≡ None
 fault_first ch n message h = rw (not_oversize ch n message 0, closing_one message h, full ch n message 0 h) refl
 
+-- nor does a middle one
 fault_middle : (ch n : ℕ) (message : Message) (kept : List Bunch) (i : ℕ) → length kept ≡ i → 0 < i → i < 10 → i + 1 < parts_of message → part_fault kept (made_bunch ch n message i) Middle ≡ None
 fault_middle ch n message kept i e s t h =
     rw (not_oversize ch n message i, closing_one message (omega (arith, s, h)), are_kept kept i e s, later_opens message i s, full ch n message i h, few kept i e t) refl
 
+-- nor does the last
 fault_last : (ch n : ℕ) (message : Message) (kept : List Bunch) (i : ℕ) → length kept ≡ i → 0 < i → i < 10 → i + 1 ≡ parts_of message → part_fault kept (made_bunch ch n message i) Last ≡ None
 fault_last ch n message kept i e s t h =
     rw (not_oversize ch n message i, closing_one message (omega (arith, s, h)), are_kept kept i e s, later_opens message i s, some_bits ch n message i s (omega (arith, h)), few kept i e t) refl
@@ -120,6 +128,7 @@ then_more end past kept b bunches e = rw (e, bunches_result) refl
 pub then_ends : (end : End) (past : Past) (kept : List Bunch) (b : Bunch) (bunches : List Bunch) (d : Delivered) → bunch_result end past kept b ≡ Ok (Some d) → bunches_result end past kept (b ∷ bunches) ≡ bunches_result end (with_handed d past) [] bunches
 then_ends end past kept b bunches d e = rw (e, bunches_result) refl
 
+-- the parts from one on hand the message on
 run_on : (end : End) (past : Past) (ch first : ℕ) (message : Message) (more : List Bunch) (i k : ℕ) → i + suc k ≡ parts_of message → parts_of message ≤ 10
     → lacks_copy end.side past [] (made_bunch ch first message 0) ≡ false → payload_at end past (made_bunch ch first message 0) (message_bits message) ≡ Ok (message, [])
     → bunches_result end past (kept_parts ch first message i) (bunches_from ch first message i (suc k) ++ more) ≡ bunches_result end (with_handed (delivery_of end past (made_bunch ch first message 0) message) past) [] more

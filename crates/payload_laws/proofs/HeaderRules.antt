@@ -44,10 +44,12 @@ exports_opened (Updates actor class values) z = refl
 exports_opened (Calls actor number call args) z = refl
 exports_opened (Gone actor) z = refl
 
+-- the kind of a reliable bunch is 1 or 2
 kind_ok : (c : Bool) → (cond c 1 2 == 1 || cond c 1 2 == 2) ≡ true
 kind_ok true = refl
 kind_ok false = refl
 
+-- its number is below 1,024
 seq_ok : (n : ℕ) → nat_lt (n % 1024) 1024 ≡ true
 seq_ok n = lt-ltb (n % 1024) 1024 (omega arith)
 

@@ -15,10 +15,12 @@ use Rattle.payload_laws.proofs.Handing.{lacks_none, no_fault, kept_more, then_mo
 
 -- ---- the kept parts are the first ones, the newest first
 
+-- a range with one more at its end
 range_more : (a n : ℕ) → range_with_len a (suc n) ≡ range_with_len a n ++ (a + n) ∷ []
 range_more a zero = let e : a + 0 ≡ a = omega arith in rw e refl
 range_more a (suc n) = let e : a + 1 + n ≡ a + suc n = omega arith in ap (λ (xs : List ℕ). a ∷ xs) (range_more (a + 1) n ∙ rw e refl)
 
+-- the first i parts turned round are those kept
 kept_is : (ch first : ℕ) (message : Message) (i : ℕ) → reverse (bunches_from ch first message 0 i) ≡ kept_parts ch first message i
 kept_is ch first message zero = refl
 kept_is ch first message (suc i) =
@@ -27,6 +29,7 @@ kept_is ch first message (suc i) =
     let more : bunches_from ch first message 0 (suc i) ≡ bunches_from ch first message 0 i ++ f i ∷ [] = ap (map f) (range_more 0 i) ∙ map-append f (range_with_len 0 i) ((0 + i) ∷ []) ∙ rw e refl in
     ap reverse more ∙ reverse-append (bunches_from ch first message 0 i) (f i ∷ []) ∙ ap (λ (xs : List Bunch). f i ∷ xs) (kept_is ch first message i)
 
+-- since the last whole payload there are just these
 since_kept : (ch first : ℕ) (message : Message) (i : ℕ) (before : List Bunch) → i < parts_of message → items_since ends_payload (kept_parts ch first message i ++ before) ≡ kept_parts ch first message i ++ items_since ends_payload before
 since_kept ch first message zero before h = refl
 since_kept ch first message (suc i) before h =
@@ -52,6 +55,7 @@ none_kept ch first message before = by_count (parts_of message) refl
 
 -- ---- parts that are heard before the last
 
+-- parts before the last are kept one after another
 run_kept : (end : End) (past : Past) (ch first : ℕ) (message : Message) (i k : ℕ) → i + k < parts_of message → parts_of message ≤ 10 → lacks_copy end.side past [] (made_bunch ch first message 0) ≡ false
     → bunches_result end past (kept_parts ch first message i) (bunches_from ch first message i k) ≡ record { past = past; cause = None }
 run_kept end past ch first message i zero e m l = refl

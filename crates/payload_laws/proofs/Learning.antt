@@ -27,6 +27,7 @@ found_guid (x ∷ names) g s h = by_test (x.guid == g) refl h (λ k. found_guid 
 abbrev pub AreOne : List Segment → Type 0
 AreOne segments = (m n : ℕ) (s t : Segment) → slice_get segments m ≡ Some s → slice_get segments n ≡ Some t → (s.guid == t.guid) ≡ (s.outer == t.outer && bytes_eq s.name t.name)
 
+-- segments with equal fields are one
 segment_is : (g h o p : ℕ) (m n : List ℕ) → g ≡ h → o ≡ p → m ≡ n → ◌≡◌ {A = Segment} (record { guid = g; outer = o; name = m }) (record { guid = h; outer = p; name = n })
 segment_is g h o p m n a b c = rw (a, b, c) refl
 
@@ -90,6 +91,7 @@ added segments names s n one among at = added_by segments names s n (name_known 
 abbrev OuterKnown : List Segment → ℕ → Type 0
 OuterKnown names outer = (outer ≡ 0) ⊎ ((t : Segment) × (name_known names outer ≡ Some t))
 
+-- an outer that is known passes its test
 outer_tested : (names : List Segment) (outer : ℕ) → OuterKnown names outer → (not (outer == 0) && is_none (name_known names outer)) ≡ false
 outer_tested names outer (inl e) = rw e refl
 outer_tested names outer (inr k) = rw k.1 (last (not (outer == 0)))
@@ -98,6 +100,7 @@ outer_tested names outer (inr k) = rw k.1 (last (not (outer == 0)))
     last true = refl
     last false = refl
 
+-- fewer than 65,536 names aren't too many
 full_not : (b : Bool) (n : ℕ) → n < 65536 → (b && nat_le 65536 n) ≡ false
 full_not true n h = grind (arith, nat_tests)
 full_not false n h = refl
@@ -114,6 +117,7 @@ is_learnt segments names s n one among at outer few = by_known (name_known names
 
 -- ---- a path
 
+-- what is known of a path stays known
 others_kept : (segments names : List Segment) (s : Segment) (test : Segment → Bool) (path : List Segment) → Added segments names s → KnowsOthers names test path → KnowsOthers (names_with names s) test path
 others_kept segments names s test [] a k = tt
 others_kept segments names s test (t ∷ path) a k = (λ e. a.keeps t (k.0 e), others_kept segments names s test path a k.1)
@@ -125,6 +129,7 @@ pub record Learnt (segments names : List Segment) (test : Segment → Bool) (pat
   pub keeps : (t : Segment) → Knows names t → Knows (fold names_with names (filter test path)) t
   pub all : KnowsAll (fold names_with names (filter test path)) path
 
+-- one more segment of the path, exported or known
 learn_step : (segments names : List Segment) (test : Segment → Bool) (s : Segment) (path : List Segment) (b : Bool) → test s ≡ b → (n : ℕ) → AreOne segments → AreAmong segments names → slice_get segments n ≡ Some s → IsSegment s → OuterKnown names s.outer → length names < 65536
     → KnowsOthers names test (s ∷ path) → (b ≡ true → Learnt segments (names_with names s) test path) → (b ≡ false → Learnt segments names test path) → Learnt segments names test (s ∷ path)
 learn_step segments names test s path true e n one among at is outer few others with_it without =

@@ -22,13 +22,16 @@ use Rattle.payload_laws.proofs.Learning.{Learnt, learn_path}
 abbrev Up : List Segment → (most guid : ℕ) → List (List ℕ) → Type 0
 Up names most g path = cond (g == 0) (Some []) (path_up names most g) ≡ Some path
 
+-- one step up from a segment to its outer
 up_step : (names : List Segment) (most : ℕ) (s : Segment) (path : List (List ℕ)) → Knows names s → 3 ≤ s.guid → Up names most s.outer path → Up names (suc most) s.guid (path ++ s.name ∷ [])
 up_step names most s path k l up = rw (not_zero s.guid (omega (arith, l)), k, up) refl
 
+-- the guid of the last segment, or the outer's
 abbrev last_guid : ℕ → List Segment → ℕ
 last_guid outer [] = outer
 last_guid outer (s ∷ path) = last_guid s.guid path
 
+-- the names of a path, from its last guid up
 up_path : (names : List Segment) (most outer : ℕ) (front : List (List ℕ)) (path : List Segment) → Up names most outer front → is_chain outer path ≡ true → AreSegments path → KnowsAll names path → Up names (most + length path) (last_guid outer path) (front ++ path_names path)
 up_path names most outer front [] up chain are known = let e : most + 0 ≡ most = omega arith in rw (append-nil front, e) up
 up_path names most outer front (s ∷ path) up chain are known =
@@ -61,12 +64,14 @@ path_named names (s ∷ path) chain are known some few =
 
 -- ---- the class of a path
 
+-- both definitions of equal names agree
 same_either : (path : List Segment) (names : List (List ℕ)) → same_names path names ≡ Rules.same_names (path_names path) names
 same_either [] [] = refl
 same_either [] (n ∷ names) = refl
 same_either (s ∷ path) [] = refl
 same_either (s ∷ path) (n ∷ names) = ap (λ (b : Bool). bytes_eq s.name n && b) (same_either path names)
 
+-- a path has its own names
 same_itself : (path : List Segment) → same_names path (path_names path) ≡ true
 same_itself [] = refl
 same_itself (s ∷ path) = and_from (bytes_eq s.name s.name) (same_names path (path_names path)) ((bytes_eq-Decides s.name s.name).1 refl) (same_itself path)
@@ -76,6 +81,7 @@ differs_there : (path : List (List ℕ)) (before : List Entry) (e : Entry) (afte
 differs_there path [] e after h = not-true _ (and_parts _ _ h).0
 differs_there path (x ∷ before) e after h = differs_there path before e after (and_parts _ _ h).1
 
+-- a class is the first of its path
 first_found : (before : List Entry) (e : Entry) (after : List Entry) → paths_differ (map (λ (e : Entry). path_names e.class.path) (before ++ e ∷ after)) ≡ true → find (λ (class : Class). same_names class.path (path_names e.class.path)) (table_of (before ++ e ∷ after)) ≡ Some e.class
 first_found [] e after h = rw (same_itself e.class.path) refl
 first_found (x ∷ before) e after h =

@@ -19,6 +19,7 @@ use Rattle.payload_laws.proofs.Naming.{class_learnt, class_is_named}
 use Rattle.payload_laws.proofs.Few.{names_few}
 use Rattle.payload_laws.proofs.SightSpelling.{sight_spells}
 
+-- a filter drops items
 filter_few : {A : Type 0} (test : A → Bool) (xs : List A) → length (filter test xs) ≤ length xs
 filter_few test [] = omega arith
 filter_few test (x ∷ xs) = by_test (test x) (filter_few test xs)
@@ -34,6 +35,7 @@ pub record NamesGive (entries : List Entry) (names : List Segment) (test : Segme
   pub guid : class_guid class < 2 ^ 32
   pub named : class_named (table_of entries) (fold names_with names (filter test class.path)) (class_guid class) ≡ Some class
 
+-- names and exports of a class's path give what an open needs
 names_give : (entries before : List Entry) (e : Entry) (after : List Entry) (names : List Segment) (test : Segment → Bool) → IsTable entries → entries ≡ before ++ e ∷ after → AreAmong (segments_of entries) names → KnowsOthers names test e.class.path → length names ≤ 65528
     → NamesGive entries names test e.class
 names_give entries before e after names test is split among others few =

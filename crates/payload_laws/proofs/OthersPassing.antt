@@ -35,10 +35,12 @@ fitting_by side number args class call it true e t h =
     rw (← same) (record { found = e; way = (and_parts _ _ t).0; fit = (and_parts (goes_from side it.way) (args_fit it.args args) t).1 })
 fitting_by side number args class call it false e t h = absurd (cc)
 
+-- a call that fits is one of the class, goes from this side, and has arguments that fit
 fitting_of : (side : Side) (number : ℕ) (args : List Arg) (class : Class) (call : Call) (o : Option Call) → call_at class number ≡ o → option_and_then (λ (call : Call). then_some (goes_from side call.way && args_fit call.args args) call) o ≡ Some call → Fitting side number args class call
 fitting_of side number args class call None e h = absurd (cc)
 fitting_of side number args class call (Some it) e h = fitting_by side number args class call it (goes_from side it.way && args_fit it.args args) e refl h
 
+-- a call that goes from one side comes to the other
 goes_over : (side : Side) (way : Way) → goes_from side way ≡ true → comes_to (reading_side side) way ≡ true
 goes_over AtServer way h = h
 goes_over AtClient way h = h

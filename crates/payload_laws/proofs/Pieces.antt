@@ -27,6 +27,7 @@ pub record Counted (n : ℕ) : Type 0 where
   pub enough : n ≤ 7000 * part_count n
   pub needed : (i : ℕ) → 1 ≤ i → i < part_count n → 7000 * i < n
 
+-- by the rest of the division
 counted_by : (n : ℕ) (b : Bool) → nat_le n 7000 ≡ b → Counted n
 counted_by n true e =
     let short : n ≤ 7000 = leb-true n 7000 e in
@@ -47,6 +48,7 @@ none_taken : (A : Type 0) (b : ℕ) → ◌≡◌ {A = List A} (take b []) []
 none_taken A zero = refl
 none_taken A (suc b) = refl
 
+-- what is taken in two steps
 take_sum : {A : Type 0} (a b : ℕ) (xs : List A) → take a xs ++ take b (drop a xs) ≡ take (a + b) xs
 take_sum zero b xs = let e : 0 + b ≡ b = omega arith in rw e refl
 take_sum {A = A} (suc a) b [] = let e : suc a + b ≡ suc (a + b) = omega arith in rw e (none_taken A b)
@@ -56,6 +58,7 @@ take_sum (suc a) b (x ∷ xs) = let e : suc a + b ≡ suc (a + b) = omega arith 
 piece_more : (bits : List Bool) (i : ℕ) → take (7000 * i) bits ++ piece_at bits i ≡ take (7000 * suc i) bits
 piece_more bits i = let e : 7000 * suc i ≡ 7000 * i + 7000 = omega arith in rw e (take_sum (7000 * i) 7000 bits)
 
+-- pieces from one on are the bits from there on
 pieces_from : (bits : List Bool) (i k : ℕ) → flat_map (piece_at bits) (range_with_len i k) ≡ take (7000 * k) (drop (7000 * i) bits)
 pieces_from bits i zero = refl
 pieces_from bits i (suc k) =
@@ -139,6 +142,7 @@ goes_on ch n message (suc i) h = ends_as (made_bunch ch n message (suc i)) Middl
 
 -- ---- what is kept
 
+-- the kept parts hold the bits so far
 kept_bits : (ch first : ℕ) (message : Message) (i : ℕ) → flat_map (λ (b : Bunch). b.payload) (reverse (kept_parts ch first message i)) ≡ take (7000 * i) (message_bits message)
 kept_bits ch first message zero = refl
 kept_bits ch first message (suc i) =
@@ -167,6 +171,7 @@ joined_is ch first message i e =
 
 -- ---- the payloads of a run
 
+-- the parts from one on make the payload
 wholes_run : (ch first : ℕ) (message : Message) (more : List Bunch) (i k : ℕ) → i + suc k ≡ parts_of message
     → wholes_from (kept_parts ch first message i) (bunches_from ch first message i (suc k) ++ more) ≡ (made_bunch ch first message 0, message_bits message) ∷ wholes_from [] more
 wholes_run ch first message more i zero e = rw (ends_last ch (first + i) message i e, kept_first ch first message i, joined_is ch first message i e) refl

@@ -24,6 +24,7 @@ lower_fits : (class : Class) (last h : ℕ) (values : List Pair) → last ≤ h 
 lower_fits class last h [] l v = tt
 lower_fits class last h (p ∷ pairs) l v = let above = v.0 in (omega (arith, l, above), v.1, v.2, v.3)
 
+-- a filter keeps values that ascend and fit
 filter_fits : (class : Class) (last : ℕ) (test : Pair → Bool) (values : List Pair) → AreValues class last values → AreValues class last (filter test values)
 filter_fits class last test [] v = tt
 filter_fits class last test (p ∷ pairs) v = by_test (test p) (filter_fits class p.handle test pairs v.3)
@@ -75,6 +76,7 @@ spawns_here table edits k class x y false e there most later =
     below : (k n : ℕ) → k ≤ n + 1 → (2 * k == 2 * (n + 1)) ≡ false → k ≤ n
     below k n m e = grind (arith, nat_tests)
 
+-- each actor up to the count was spawned
 spawns : (table : Table) (edits : Edits) (k : ℕ) → AreAccepted table edits → 1 ≤ k → k ≤ spawn_count edits → Spawns table edits (2 * k)
 spawns table [] k ok one most = absurd (omega (arith, one, most))
 spawns table (Spawn class x y ∷ edits) k ok one most =
@@ -91,6 +93,7 @@ spawns table (Switch b h on ∷ edits) k ok one most = let s = spawns table edit
 spawns table (Team p t ∷ edits) k ok one most = let s = spawns table edits k ok.2 one (omega (arith, most, count_other (Team p t) edits refl)) in record { spawned = s.spawned; is = s.is; class_there = s.class_there }
 spawns table (Give b t ∷ edits) k ok one most = let s = spawns table edits k ok.2 one (omega (arith, most, count_other (Give b t) edits refl)) in record { spawned = s.spawned; is = s.is; class_there = s.class_there }
 
+-- a class of the table stands in it
 class_stands : (entries : List Entry) (n : ℕ) → n < length (table_of entries) → StandsIn entries (class_at (table_of entries) n)
 class_stands [] n h = absurd (omega (arith, h))
 class_stands (e ∷ entries) zero h = ([], e, entries, refl, refl)
@@ -139,6 +142,7 @@ pub record CanSpell (entries : List Entry) (seen : Seen) : Type 0 where
   pub stands : StandsIn entries seen.class
   pub all_fit : AreValues seen.class 0 seen.values
 
+-- so does the class of a spawned actor
 stands_of : (entries : List Entry) (edits : Edits) (a : ℕ) → Spawns (table_of entries) edits a → StandsIn entries (class_of (table_of entries) edits a)
 stands_of entries edits a s =
     let there = class_stands entries s.spawned.class s.class_there in

@@ -87,24 +87,28 @@ need_of rule why bits n rest h =
 
 -- ---- values
 
+-- what is read as a whole number was read as a natural one
 natural_of : (read : PayloadReading ℕ) (bits : List Bool) (v : ℤ) (rest : List Bool) → natural_at read bits ≡ Ok (v, rest) → (n : ℕ) × (read bits ≡ Ok (n, rest)) × (pos n ≡ v)
 natural_of read bits v rest h =
     let a = then_of read (λ n. give (pos n)) bits (v, rest) h in
     let same = ok_parts (pos a.value) v a.rest rest a.second in
     (a.value, a.first ∙ ap (λ (xs : List Bool). Ok (a.value, xs)) same.1, same.0)
 
+-- a value of fixed width was spelled so
 fixed_was : (w : ℕ) (v : ℤ) (bits rest : List Bool) → natural_at (fixed_at w) bits ≡ Ok (v, rest) → (is_below (2 ^ w) v ≡ true) × (bits ≡ fixed_bits w (natural v) ++ rest)
 fixed_was w v bits rest h =
     let n = natural_of (fixed_at w) bits v rest h in
     let s = fixed_spelled w n.0 bits rest n.1 in
     subst (λ (z : ℤ). (is_below (2 ^ w) z ≡ true) × (bits ≡ fixed_bits w (natural z) ++ rest)) n.2 (lt-ltb n.0 (2 ^ w) s.0, s.1)
 
+-- a value below its bound was spelled so
 int_was : (max : ℕ) (v : ℤ) (bits rest : List Bool) → 1 ≤ max → max ≤ 2 ^ 32 → natural_at (int_at max) bits ≡ Ok (v, rest) → (is_below max v ≡ true) × (bits ≡ int_bits max (natural v) ++ rest)
 int_was max v bits rest l m h =
     let n = natural_of (int_at max) bits v rest h in
     let s = int_spelled max n.0 bits rest l m n.1 in
     subst (λ (z : ℤ). (is_below max z ≡ true) × (bits ≡ int_bits max (natural z) ++ rest)) n.2 (lt-ltb n.0 max s.0, s.1)
 
+-- a packed value was spelled so
 packed_was : (v : ℤ) (bits rest : List Bool) → natural_at number_at bits ≡ Ok (v, rest) → (is_below (2 ^ 32) v ≡ true) × (bits ≡ packed_bits (natural v) ++ rest)
 packed_was v bits rest h =
     let n = natural_of number_at bits v rest h in
@@ -121,6 +125,7 @@ signed_by w n false e h =
     let small : m < 2 ^ w = omega (arith, h, twice, high) in
     rw (e, signed_of) (lt-ltb m (2 ^ w) small, sym (turned (w + 1) n m sum))
 
+-- a signed value was spelled so
 signed_was : (w : ℕ) (v : ℤ) (bits rest : List Bool) → signed_at {Why = Option Cause} w bits ≡ Ok (v, rest) → (is_within (2 ^ w) v ≡ true) × (bits ≡ signed_bits (w + 1) v ++ rest)
 signed_was w v bits rest h =
     let a = then_of (fixed_at (w + 1)) (λ n. give (signed_of w n)) bits (v, rest) h in

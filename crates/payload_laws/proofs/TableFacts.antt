@@ -16,6 +16,7 @@ use Rattle.payload_laws.specs.Limits.{HasLimits, AreSegments}
 
 -- ---- limits
 
+-- the kinds of a class may stand among properties
 types_of : (props : List Prop) → list_all is_prop props ≡ true → list_all (λ (p : Prop). is_type false p.kind) props ≡ true
 types_of [] h = refl
 types_of (p ∷ props) h = and_from (is_type false p.kind) _ (and_parts _ _ (and_parts _ _ (and_parts _ _ h).0).0).1 (types_of props (and_parts _ _ h).1)
@@ -57,6 +58,7 @@ named_limits entries names guid class is h = by_path (path_up names 8 guid) h
 
 -- ---- segments
 
+-- a name's characters are the same in both definitions
 chars_same : (cs : List ℕ) → list_all Words.is_name_byte cs ≡ true → list_all Names.is_name_char cs ≡ true
 chars_same [] h = refl
 chars_same (c ∷ cs) h = and_from (Names.is_name_char c) (list_all Names.is_name_char cs) (one c (and_parts _ _ h).0) (chars_same cs (and_parts _ _ h).1)
@@ -93,10 +95,12 @@ numbered_right : (xs ys : List Segment) → AreNumbered (xs ++ ys) → AreNumber
 numbered_right [] ys h = h
 numbered_right (x ∷ xs) ys h = numbered_right xs ys h.1
 
+-- a class's segments have guids of the table
 numbered_class : (before : List Entry) (e : Entry) (after : List Entry) → AreNumbered (segments_of (before ++ e ∷ after)) → AreNumbered e.class.path
 numbered_class [] e after h = numbered_left e.class.path (segments_of after) h
 numbered_class (x ∷ before) e after h = numbered_class before e after (numbered_right x.class.path (segments_of (before ++ e ∷ after)) h)
 
+-- each segment of such a path can be exported
 chain_segments : (outer : ℕ) (path : List Segment) → outer < 2 ^ 32 → is_chain outer path ≡ true → AreNumbered path → AreSegments path
 chain_segments outer [] o h n = tt
 chain_segments outer (s ∷ path) o h n =

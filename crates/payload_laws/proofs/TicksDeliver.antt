@@ -36,6 +36,7 @@ fold_same : {A : Type 0} (f : Past → A → Past) (p : Past) (xs : List A) → 
 fold_same f p [] e = none p
 fold_same f p (x ∷ xs) e = then (fold_same f (f p x) xs e) (e p x)
 
+-- making a message hands nothing on
 making_same : (p : Past) (ch : ℕ) (message : Message) → Same (after_making p ch message) p
 making_same p ch message = fold_same (λ (before : Past) (i : ℕ). Made ch (made_count p ch + 1 + i) message i ∷ before) p (range_with_len 0 (parts_of message)) (λ q i. record { is = refl })
 
@@ -49,6 +50,7 @@ close_by p false true z a b c one two three = room_same p b two
 close_by p false false true a b c one two three = room_same p c three
 close_by p false false false a b c one two three = none p
 
+-- nor does a close
 close_same : (p : Past) (a : ℕ) → Same (after_close p a) p
 close_same p a =
     let seen : Option Seen = seen_in (sight_of p) a in
@@ -71,6 +73,7 @@ fold_packing : {A : Type 0} (f : Packing → A → Packing) (p : Packing) (xs : 
 fold_packing f p [] e = still p
 fold_packing f p (x ∷ xs) e = record { is = (fold_packing f (f p x) xs e).is ∙ (e p x).is }
 
+-- nor does an item that is offered
 offer_same : (end : End) (p : Packing) (item : Item) → SamePast (after_offer end p item) p
 offer_same end p item = if_packing p.full p (cond (has_room end p item) (record p { packets = items_with p.packets (fits_current end p.past p.packets item) item }) (record p { full = true })) p (still p)
     (if_packing (has_room end p item) (record p { packets = items_with p.packets (fits_current end p.past p.packets item) item }) (record p { full = true }) p (record { is = refl }) (record { is = refl }))
@@ -88,6 +91,7 @@ update_same end p seen None due = still p
 update_same end p seen (Some ch) [] = still p
 update_same end p seen (Some ch) (pair ∷ due) = offer_same end p (loose_item (update_message seen (update_pairs seen (pair ∷ due))) ch)
 
+-- nor does an actor's turn
 actor_same : (end : End) (p : Packing) (seen : Seen) → SamePast (after_actor end p seen) p
 actor_same end p seen =
     let opened : Packing = after_open end p (free_index p.past) (open_message p.past seen) in
@@ -97,12 +101,14 @@ actor_same end p seen =
     (if_packing (wants_open p.past seen) opened rest p (open_same end p (free_index p.past) (open_message p.past seen))
     (if_packing (is_opened (state_of p.past seen.actor)) updated p p (update_same end p seen (index_of p.past seen.actor) (due_pairs p.past seen)) (still p)))
 
+-- nor does packing
 packing_same : (end : End) (before now : Past) → delivered_of (packing_of end before now).past ≡ delivered_of now
 packing_same end before now =
     let first : Packing = record { past = now; packets = []; full = false } in
     (fold_packing (after_actor end) (fold (after_offer end) first (first_items end before now)) (actors_by_score now) (actor_same end)).is
     ∙ (fold_packing (after_offer end) first (first_items end before now) (offer_same end)).is
 
+-- nor does a stall
 stall_same : (p : Past) → Same (after_stall p) p
 stall_same p = same_if (nat_le 4096 (unresolved_count p)) (Ended ByStall ∷ p) p p (record { is = refl }) (none p)
 
@@ -117,11 +123,13 @@ tick_same end p sight =
     let closed_same : delivered_of closed ≡ delivered_of now = (fold_same after_close now (opened_actors now) close_same).is in
     (same_if (has_ended p) p (after_stall sent) p (none p) (record { is = (stall_same sent).is ∙ sent_same ∙ packing_same end p closed ∙ closed_same })).is
 
+-- nor does a call that is queued
 queued_same : (p : Past) (a number : ℕ) (args : List Arg) (o : Option ℕ) (call : Option Call) → delivered_of (queued_for p a number args o call) ≡ delivered_of p
 queued_same p a number args (Some ch) (Some call) = (same_if call.reliable (after_making p ch (Calls a number call args)) (Waits (Calls a number call args) ∷ p) p (making_same p ch (Calls a number call args)) (record { is = refl })).is
 queued_same p a number args (Some ch) None = refl
 queued_same p a number args None call = refl
 
+-- nor does its answer
 answer_same : (side : Side) (p : Past) (a number : ℕ) (args : List Arg) (answer : CallAnswer) → delivered_of (after_answer side p a number args answer) ≡ delivered_of p
 answer_same side p a number args Queued = queued_same p a number args (call_channel side p a) (call_of side p a number args)
 answer_same side p a number args Dead = refl

@@ -38,6 +38,7 @@ longest_by test most xs false e shorter = record {
     at_least zero h e shorter = absurd (cc)
     at_least (suc most) h e shorter = shorter.some h (omega arith)
 
+-- a longest prefix passes its test or is empty
 longest : {A : Type 0} (test : List A → Bool) (most : ℕ) (xs : List A) → IsLongest test most xs
 longest test zero xs = record { count = 0; prefix = refl; passes = λ h. h; some = λ h k. k }
 longest test (suc most) xs = longest_by test most xs (test (take (suc most) xs)) refl (longest test most xs)
@@ -56,6 +57,7 @@ front_fits class last zero values v = tt
 front_fits class last (suc count) [] v = tt
 front_fits class last (suc count) (p ∷ pairs) v = (v.0, v.1, v.2, front_fits class p.handle count pairs v.3)
 
+-- one pair fits an update
 first_fits : (seen : Seen) (p : Pair) → HasLimits seen.class → p.handle ≤ handle_count seen.class → nat_le (length (message_bits (update_message seen (p ∷ [])))) 6000 ≡ true
 first_fits seen p limits h =
     let few = limits.handles in

@@ -16,17 +16,21 @@ use Rattle.table_model.specs.Facts.{is_type}
 use Rattle.payload_laws.specs.Limits.{HasLimits}
 use Rattle.payload_laws.proofs.Fields.{then_read, int_read, packed_read, fixed_read}
 
+-- a value that is a natural number
 natural_read : (read : PayloadReading ℕ) (bits : List Bool) (n : ℕ) (rest : List Bool) → read bits ≡ Ok (n, rest) → natural_at read bits ≡ Ok (pos n, rest)
 natural_read read bits n rest h = then_read read (λ n. give (pos n)) bits n rest (Ok (pos n, rest)) h refl
 
+-- a value of fixed width
 fixed_value : (w : ℕ) (v : ℤ) (rest : List Bool) → is_below (2 ^ w) v ≡ true → natural_at (fixed_at w) (fixed_bits w (natural v) ++ rest) ≡ Ok (v, rest)
 fixed_value w (pos n) rest h = natural_read (fixed_at w) (fixed_bits w n ++ rest) n rest (fixed_read w n rest (ltb-true n (2 ^ w) h))
 fixed_value w (negsuc n) rest h = absurd (cc)
 
+-- a packed value
 packed_value : (v : ℤ) (rest : List Bool) → is_below (2 ^ 32) v ≡ true → natural_at number_at (packed_bits (natural v) ++ rest) ≡ Ok (v, rest)
 packed_value (pos n) rest h = natural_read number_at (packed_bits n ++ rest) n rest (packed_read _ n rest (ltb-true n (2 ^ 32) h))
 packed_value (negsuc n) rest h = absurd (cc)
 
+-- a value below its bound
 int_value : (max : ℕ) (v : ℤ) (rest : List Bool) → max ≤ 2 ^ 32 → is_below max v ≡ true → natural_at (int_at max) (int_bits max (natural v) ++ rest) ≡ Ok (v, rest)
 int_value max (pos n) rest m h = natural_read (int_at max) (int_bits max n ++ rest) n rest (int_read max n rest (ltb-true n max h) m)
 int_value max (negsuc n) rest m h = absurd (cc)
@@ -54,6 +58,7 @@ twice_is w = let e : w + 1 ≡ suc w = omega arith in rw e (omega (arith, pow-su
 signed_is : (w n : ℕ) (v : ℤ) (rest : List Bool) → n < 2 ^ (w + 1) → signed_of w n ≡ v → signed_at {Why = Option Cause} w (digits (w + 1) n ++ rest) ≡ Ok (v, rest)
 signed_is w n v rest h e = then_read (fixed_at (w + 1)) (λ n. give (signed_of w n)) (digits (w + 1) n ++ rest) n rest (Ok (v, rest)) (fixed_read (w + 1) n rest h) (rw e refl)
 
+-- a signed value
 signed_value : (w : ℕ) (v : ℤ) (rest : List Bool) → is_within (2 ^ w) v ≡ true → signed_at {Why = Option Cause} w (signed_bits (w + 1) v ++ rest) ≡ Ok (v, rest)
 signed_value w (pos n) rest h =
     let small : n < 2 ^ w = ltb-true n (2 ^ w) h in
@@ -87,6 +92,7 @@ value_read argument (Bytes most) v rest k f = absurd (cc)
 
 -- ---- the kinds of a class
 
+-- each property has a kind that a table may name
 kinds_all : (props : List Prop) (h : ℕ) → list_all (λ (p : Prop). is_type false p.kind) props ≡ true → is_type false (unwrap_or (option_map (λ (p : Prop). p.kind) (slice_get props h)) Kind.Bool) ≡ true
 kinds_all [] h k = refl
 kinds_all (p ∷ props) zero k = (and_parts _ _ k).0
