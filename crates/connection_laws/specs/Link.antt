@@ -1,0 +1,76 @@
+-- Two ends over a network that loses, repeats and reorders packets and alters none.
+use Rattle.std.specs.Prelude.{◌≡◌, ℕ, ◌+◌, ◌≤◌, ◌%◌, ◌==◌, List, [], ◌∷◌, ◌++◌, map, reverse, false, pos, if◌then◌else◌}
+use Rattle.protocol_model.specs.declared.Version.{Version}
+use Rattle.protocol_model.specs.declared.Version.TheVariants.{One, Two}
+use Rattle.protocol_model.specs.Bits.{near}
+use Rattle.protocol_model.specs.Packet.{Head}
+use Rattle.connection_model.specs.Feed.{End, Past, Sent, Took, Ended, Entry, Told, Item, has_ended}
+use Rattle.connection_model.specs.Fates.{top_of, last_sent, head_of, taken_of}
+use Rattle.connection_model.specs.Pack.{rec_of}
+use Rattle.connection_model.specs.Verdict.{entry_of}
+use Rattle.connection_laws.specs.Run.{Move, Ticks, Makes, Defers, Sends, Takes, Hears, Hands, Ends, after_move, May}
+
+-- what a packet says: its head in version Two, then its items
+pub data Said : Type 0 where
+  Tells : (head : Head) → Said
+  Holds : (item : Item) → Said
+
+-- what is heard of it
+abbrev pub entry_said : Said → Entry
+entry_said (Tells head) = Told head
+entry_said (Holds item) = entry_of (rec_of item)
+
+-- what a packet of these items says after this past
+abbrev pub all_said : Version → Past → List Item → List Said
+all_said One past items = map (λ (item : Item). Holds item) items
+all_said Two past items = Tells (head_of Two past) ∷ map (λ (item : Item). Holds item) items
+
+-- what packet k said, nothing where it wasn't sent
+abbrev pub said_by : Version → Past → (k : ℕ) → List Said
+said_by v [] k = []
+said_by v (Sent number t items ∷ past) k = if number == k then all_said v past items else said_by v past k
+said_by v (deed ∷ past) k = said_by v past k
+
+-- packet k of the other end may come: it was sent, and is at most 8,192 below the last one taken
+pub record MayCome (me other : Past) (k : ℕ) : Type 0 where
+  pub first : 1 ≤ k
+  pub sent : k ≤ last_sent other
+  pub recent : top_of me ≤ k + 8192
+
+-- the packet under way, if there is one, was heard to its end
+abbrev pub IsWhole : Version → (other me : Past) → Type 0
+IsWhole v other (Took n entries handed ∷ past) = entries ≡ reverse (map entry_said (said_by v other n))
+IsWhole v other past = Unit {0}
+
+-- the entry is the next one of the packet under way
+abbrev pub IsNext : Version → (other me : Past) → Entry → Type 0
+IsNext v other (Took n entries handed ∷ past) entry =
+    (before : List Said) × (said : Said) × (after : List Said) × (said_by v other n ≡ before ++ said ∷ after)
+    × (entries ≡ reverse (map entry_said before)) × (entry ≡ entry_said said)
+IsNext v other past entry = Unit {0}
+
+-- a packet is taken that the other end sent, by the number that is read; it is heard in order, and to its end
+-- unless the end ends
+abbrev pub IsHonest : Version → (other me : Past) → Move → Type 0
+IsHonest v other me (Takes n) = IsWhole v other me × ((k : ℕ) × MayCome me other k × (near (k % 16384) (pos (top_of me)) 16384 ≡ pos n))
+IsHonest v other me (Hears entry) = IsNext v other me entry
+IsHonest v other me (Hands d) = Unit {0}
+IsHonest v other me (Ends ending) = Unit {0}
+IsHonest v other me (Ticks sight) = IsWhole v other me
+IsHonest v other me (Makes ch message) = IsWhole v other me
+IsHonest v other me (Defers message) = IsWhole v other me
+IsHonest v other me (Sends items) = IsWhole v other me
+
+-- the pasts of two ends of one version, after such moves
+pub data IsLink (left right : End) : Past → Past → Type 0 where
+  start : IsLink left right [] []
+  left_does : {l r : Past} (move : Move) → IsLink left right l r → has_ended l ≡ false → May left l move → IsHonest left.version r l move
+      → IsLink left right (after_move l move) r
+  right_does : {l r : Past} (move : Move) → IsLink left right l r → has_ended r ≡ false → May right r move → IsHonest right.version l r move
+      → IsLink left right l (after_move r move)
+
+-- the numbers of the packets that were taken and heard to their end
+abbrev pub done_of : Past → List ℕ
+done_of (Took n entries handed ∷ past) = taken_of past
+done_of (Ended ending ∷ past) = done_of past
+done_of past = taken_of past
