@@ -9,7 +9,7 @@ use Rattle.connection_model.specs.Feed.{End, Past, Waits, has_ended}
 use Rattle.connection_model.specs.Bunches.{room, after_making}
 use Rattle.connection_model.specs.CallAnswers.{call_channel, call_of, is_not_owner, is_full, answer_for, queued_for, after_answer, after_call}
 use Rattle.connection_laws.specs.Run.{Defers}
-use Rattle.connection_laws.proofs.Live.{Goes, IsLiveRun, IsDone, live_done, done_live, live_made}
+use Rattle.connection_laws.proofs.LiveRuns.{Goes, IsLiveRun, IsDone, live_done, done_live, live_made}
 
 module _ (end : End) (R : Past → Type 0) (g : Goes end R) (past : Past) (live : IsLiveRun R past) (a n : ℕ) (args : List Arg) where
   -- the past after an answer, by the channel and the call that are meant

@@ -1,5 +1,5 @@
 -- Two ends that talk: the first packet of a server, which opens a Pawn, comes to the client.
-use Rattle.std.specs.Prelude.{◌≡◌, refl, ℕ, List, [], ◌∷◌, Some, Ok, unwrap_or, slice_get, pos, negsuc}
+use Rattle.std.specs.Prelude.{◌≡◌, ◌≤◌, refl, ℕ, List, [], ◌∷◌, Some, Ok, unwrap_or, slice_get, pos, negsuc}
 use Rattle.std.proofs.Common.{arith}
 use Rattle.protocol_model.specs.Numbers.{leading_groups}
 use Rattle.protocol_model.specs.Bits.{int_width, digits, packed_in, bytes_in}
@@ -10,10 +10,14 @@ use Rattle.protocol_model.specs.PacketReading as Reading
 use Rattle.protocol_model.specs.Side.{AtServer, AtClient}
 use Rattle.protocol_model.specs.Sight.{Seen, seen_of}
 use Rattle.protocol_model.specs.World.{Spawn}
-use Rattle.connection_model.specs.Feed.{End, Tick, Got, Past}
+use Rattle.connection_model.specs.Feed.{End, Event, Tick, Got, Past}
+use Rattle.protocol_model.specs.Limits.{span_limit}
+use Rattle.connection_model.specs.Bunches.{span}
 use Rattle.connection_model.specs.Fates.{last_sent}
 use Rattle.connection_model.specs.Past.{past_of, sent_bytes}
 use Rattle.connection_laws.specs.Talk.{packet_at, IsPacketOf, IsTalk}
+use Rattle.connection_laws.proofs.Feeds.{feed_runs}
+use Rattle.connection_laws.proofs.Spans.{spans_fit}
 use Rattle.connection_laws.specs.Talk.IsTalk.{start, left_hears, right_hears}
 
 server : End
@@ -63,3 +67,7 @@ comes = record {
 they_talk : IsTalk server client (Tick (seen ∷ []) ∷ []) (Got bytes ∷ [])
 unfolding ticked
 they_talk = right_hears (Got bytes) (left_hears (Tick (seen ∷ [])) start tt) comes
+
+-- a law at a feed: whatever an end heard, no index is further ahead of what has arrived than the limit
+spans_are_short : (end : End) (feed : List Event) (ch : ℕ) → span (past_of end feed) ch ≤ span_limit
+spans_are_short end feed ch = (spans_fit end (past_of end feed) (feed_runs end feed)).each ch

@@ -6,7 +6,7 @@ use Rattle.connection_laws.specs.Run.{Ticks, IsRun}
 use Rattle.connection_laws.specs.Run.IsRun.{start, does}
 use Rattle.connection_laws.proofs.Calling.{call_runs}
 use Rattle.connection_laws.proofs.Hearing.{datagram_runs}
-use Rattle.connection_laws.proofs.Live.{IsDone, runs_go}
+use Rattle.connection_laws.proofs.LiveRuns.{IsDone, runs_go}
 use Rattle.connection_laws.proofs.Ticking.{tick_runs}
 
 event_done : (end : End) (past : Past) (event : Event) → IsDone (IsRun end) past → IsDone (IsRun end) (after_event end past event)

@@ -12,7 +12,7 @@ use Rattle.connection_model.specs.Windows.{Received, received_on, offer_of, numb
 use Rattle.connection_model.specs.Verdict.{is_misplaced, bunch_result, with_told, with_handed, Progress, bunches_result, reliable_result, bunch_heard, ack_cause, entry_result, after_entries, entries_in, after_packet, after_reading, after_got}
 use Rattle.connection_laws.specs.Run.{Takes, IsRun}
 use Rattle.connection_laws.specs.Run.IsRun.{does}
-use Rattle.connection_laws.proofs.Live.{IsLiveRun, IsDone, live_done, done_live, ended_done, runs_go, live_told, live_handed}
+use Rattle.connection_laws.proofs.LiveRuns.{IsLiveRun, IsDone, live_done, done_live, ended_done, runs_go, live_told, live_handed}
 
 -- ---- one bunch
 

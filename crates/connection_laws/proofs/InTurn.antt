@@ -11,11 +11,11 @@ use Rattle.connection_model.specs.State.{Mark, ActorState, Closed, Asleep, Openi
 use Rattle.connection_model.specs.Verdict.{with_told, with_handed}
 use Rattle.connection_model.specs.CallAnswers.{call_channel}
 use Rattle.connection_laws.specs.Run.{Move, Ticks, Makes, Defers, Sends, Takes, Hears, Hands, Ends, after_move, May, IsRun, MayMake}
-use Rattle.connection_laws.specs.Delivered.{Numbered, numbered_in}
-use Rattle.connection_laws.specs.InTurn.{user_said, user_of, Fits, Brackets, BracketsFit}
+use Rattle.connection_laws.specs.Delivered.{on_index, Numbered, numbered_in}
+use Rattle.connection_laws.specs.InTurn.{user_said, user_of, FitsUse, Brackets, BracketsFit}
 use Rattle.connection_laws.proofs.Moves.{told_ignored, handed_ignored}
 use Rattle.connection_laws.proofs.Deeds.{always}
-use Rattle.connection_laws.proofs.Marks.{marks, mark_made, mark_told, mark_handed, Holders, holders, held_found}
+use Rattle.connection_laws.proofs.ActorMarks.{marks, mark_made, mark_told, mark_handed, Holders, holders, held_found}
 use Rattle.connection_laws.proofs.Prefixes.{messages_made}
 
 -- ---- an actor whose last mark is its open
@@ -80,9 +80,6 @@ held_open past b ch i e = by (last_mark past b) refl
 
 -- ---- who uses an index
 
-abbrev on_index : ℕ → Past → List Numbered
-on_index ch past = filter_map (numbered_in ch) past
-
 pub record Users (past : Past) : Type 0 where
   pub marked : (ch b : ℕ) → user_of (on_index ch past) ≡ Some b → OpenMark past b ch
   pub used : (ch b : ℕ) → OpenMark past b ch → user_of (on_index ch past) ≡ Some b
@@ -131,7 +128,7 @@ module _ (end : End) (past : Past) (h : Holders past) (u : Users past) (c : ℕ)
       by (Some b) e = absurd (false≢true (sym free ∙ held_found past h b c (open_holds_it past b c (u.marked c b e)).0))
 
   -- the message fits those before it on its index
-  message_fits : end.side ≡ AtServer → (m : Message) → MayMake end past c m → Fits (on_index c past) m
+  message_fits : end.side ≡ AtServer → (m : Message) → MayMake end past c m → FitsUse (on_index c past) m
   message_fits s (Opens exports a class values) may = nobody (Opens exports a class values) may.place.1
   message_fits s (Closes a sleeps) may = u.used c a (held_open past a c may.place.0 may.place.1)
   message_fits s (Gone a) may = tt

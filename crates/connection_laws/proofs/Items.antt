@@ -16,7 +16,7 @@ use Rattle.connection_model.specs.Bunches.{is_opening}
 use Rattle.connection_laws.specs.Run.{MayMake, HasLoosePlace, IsLooseCall, HasWaited}
 use Rattle.connection_laws.specs.Deeds.{DeedsFit}
 use Rattle.connection_laws.proofs.Moves.{made_ignored, made_ignored_all}
-use Rattle.connection_laws.proofs.Marks.{marks, mark_made, state_same, index_same}
+use Rattle.connection_laws.proofs.ActorMarks.{marks, mark_made, state_same, index_same}
 use Rattle.std.proofs.Common.{◌≡◌, inl, inr, ℕ, zero, suc, ◌+◌, ◌<◌, ◌≤◌, max, List, [], ◌∷◌, ◌++◌, Bool, true, false, eqb, ◌&&◌, refl, ap, ◌∙◌, subst, arith, Option, Some, None}
 use Rattle.std.specs.List.{filter_map, flat_map, cons_option, filter, range_with_len, AllByRecursion}
 use Rattle.std.specs.Bool.{then_some}
@@ -42,7 +42,7 @@ use Rattle.connection_laws.proofs.Searches.{greatest_of-cons, among_here, newest
 use Rattle.connection_laws.proofs.Moves.{making_keeps}
 use Rattle.connection_laws.proofs.Counts.{made_count_grows, made_count_made}
 use Rattle.connection_laws.proofs.Arrivals.{arrival_made, arrival_sent}
-use Rattle.connection_laws.proofs.Telling.{taken_made}
+use Rattle.connection_laws.proofs.AcksInOrder.{taken_made}
 use Rattle.connection_laws.proofs.Spans.{unmade_unarrived}
 
 -- ---- all of a list

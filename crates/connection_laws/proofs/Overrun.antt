@@ -18,7 +18,7 @@ use Rattle.connection_laws.proofs.Holding.{without, without_shorter}
 use Rattle.connection_laws.proofs.Spans.{span_sum_is, unused_span, spans_fit}
 use Rattle.connection_laws.proofs.Receiving.{has, next_new, next_low}
 use Rattle.connection_laws.proofs.Applied.{offer_cases}
-use Rattle.connection_laws.proofs.Core.{Core, arrived_received}
+use Rattle.connection_laws.proofs.Transfer.{Transfers, arrived_received}
 
 -- ---- a sum over fewer numbers of less
 
@@ -174,7 +174,7 @@ unheard (Heard b ∷ es) ch e =
 
 -- ---- the law
 
-module _ (end : End) (from to : Past) (run : IsRun end from) (v : Version) (g : Core v from to) where
+module _ (end : End) (from to : Past) (run : IsRun end from) (v : Version) (g : Transfers v from to) where
   -- the least that hasn't arrived is at most the next
   least_at_most : (ch : ℕ) → least_unarrived from ch ≤ next_of (received_on to ch)
   least_at_most ch = elim (cases_lt (next_of (received_on to ch)) (least_unarrived from ch)) [

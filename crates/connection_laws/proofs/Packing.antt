@@ -15,13 +15,13 @@ use Rattle.connection_model.specs.State.{ActorState, Closed, Asleep, Opening, Op
 use Rattle.connection_model.specs.Carry.{due_pairs}
 use Rattle.connection_model.specs.Items.{loose_item, wants_open, is_quiet, open_message, update_message, update_pairs}
 use Rattle.connection_model.specs.Pack.{Packing, fits_current, may_begin, has_room, items_with, after_offer, part_item, after_open, after_update, after_actor, packet_size}
-use Rattle.connection_laws.specs.Run.{Makes, MayMake, MaySend, owed_in, owed_by, told_of, Acknowledges}
+use Rattle.connection_laws.specs.Run.{Makes, MayMake, MaySend, owed_in, owed_by, acknowledged_of, Acknowledges}
 use Rattle.connection_laws.proofs.Fates.{carries_made}
-use Rattle.connection_laws.proofs.Telling.{told_made, since_made}
-use Rattle.connection_laws.proofs.Live.{Goes, alive_made, unresolved_made}
+use Rattle.connection_laws.proofs.AcksInOrder.{told_made, since_made}
+use Rattle.connection_laws.proofs.LiveRuns.{Goes, alive_made, unresolved_made}
 use Rattle.connection_laws.proofs.Holding.{free_index_fits}
 use Rattle.connection_laws.proofs.Items.{all_weaker, all_append, MayGo, may_send_made, parts_may_go, told_drop, sight_made}
-use Rattle.connection_laws.proofs.Shown.{SeenNow, seen_like}
+use Rattle.connection_laws.proofs.ActorsShown.{SeenNow, seen_like}
 
 -- the items of packets whose newest stands first, in the order in which they were packed
 abbrev pub packed : List (List Item) → List Item
@@ -35,7 +35,7 @@ pub record Packs (end : End) (R : Past → Type 0) (past : Past) (packets : List
   pub open_fates : unresolved_count past < 4096
   pub count : unresolved_count past + length packets ≤ 4096
   pub each : AllByRecursion (MaySend end past) (packed packets)
-  pub owed : Acknowledges end.version (greatest_of (told_of past)) (owed_by (packed packets) ++ rest)
+  pub owed : Acknowledges end.version (greatest_of (acknowledged_of past)) (owed_by (packed packets) ++ rest)
 
 -- what is packed by now, with these numbers still to be acknowledged
 abbrev pub PacksOn : End → (Past → Type 0) → Packing → List ℕ → Type 0
@@ -64,8 +64,8 @@ module _ (end : End) (R : Past → Type 0) (g : Goes end R) where
       (and_parts (nat_lt (8 * sum_by (packet_size end p.past) p.packets) end.budget) (nat_lt (unresolved_count p.past + length p.packets) 4096) e).1
 
   pub offer_with : (p : Packing) (item : Item) (rest later : List ℕ) → PacksOn end R p rest → MaySend end p.past item
-      → Acknowledges end.version (greatest_of (told_of p.past)) (owed_by (packed p.packets ++ item ∷ []) ++ later)
-      → Acknowledges end.version (greatest_of (told_of p.past)) (owed_by (packed p.packets) ++ later)
+      → Acknowledges end.version (greatest_of (acknowledged_of p.past)) (owed_by (packed p.packets ++ item ∷ []) ++ later)
+      → Acknowledges end.version (greatest_of (acknowledged_of p.past)) (owed_by (packed p.packets) ++ later)
       → PacksOn end R (after_offer end p item) later
   offer_with p item rest later h may with_it without_it =
       cond_both p.full p
@@ -91,21 +91,21 @@ module _ (end : End) (R : Past → Type 0) (g : Goes end R) where
             open_fates = h.open_fates;
             count = count_with p.past p.packets item (unresolved_count p.past) h.count (begins room) (fits_current end p.past p.packets item) refl;
             each = subst (AllByRecursion (MaySend end p.past)) (sym e) (all_append (MaySend end p.past) (packed p.packets) (item ∷ []) h.each (may, tt));
-            owed = subst (λ (items : List Item). Acknowledges end.version (greatest_of (told_of p.past)) (owed_by items ++ later)) (sym e) with_it;
+            owed = subst (λ (items : List Item). Acknowledges end.version (greatest_of (acknowledged_of p.past)) (owed_by items ++ later)) (sym e) with_it;
           }
 
   -- an acknowledgement
   pub offer_owed : (p : Packing) (n : ℕ) (rest : List ℕ) → PacksOn end R p (n ∷ rest) → MaySend end p.past (Owed n) → PacksOn end R (after_offer end p (Owed n)) rest
   offer_owed p n rest h may =
       offer_with p (Owed n) (n ∷ rest) rest h may
-      (subst (Acknowledges end.version (greatest_of (told_of p.past))) (sym (ap (λ (ns : List ℕ). ns ++ rest) (filter_map-append owed_in (packed p.packets) (Owed n ∷ [])) ∙ append_assoc (owed_by (packed p.packets)) (n ∷ []) rest)) h.owed)
-      (told_drop end.version (greatest_of (told_of p.past)) (owed_by (packed p.packets)) n rest h.owed)
+      (subst (Acknowledges end.version (greatest_of (acknowledged_of p.past))) (sym (ap (λ (ns : List ℕ). ns ++ rest) (filter_map-append owed_in (packed p.packets) (Owed n ∷ [])) ∙ append_assoc (owed_by (packed p.packets)) (n ∷ []) rest)) h.owed)
+      (told_drop end.version (greatest_of (acknowledged_of p.past)) (owed_by (packed p.packets)) n rest h.owed)
 
   -- and any other item
   pub offer_other : (p : Packing) (item : Item) (rest : List ℕ) → PacksOn end R p rest → MayGo end p.past item → PacksOn end R (after_offer end p item) rest
   offer_other p item rest h may =
       offer_with p item rest rest h may.0
-      (subst (λ (ns : List ℕ). Acknowledges end.version (greatest_of (told_of p.past)) (ns ++ rest)) (sym (filter_map-append owed_in (packed p.packets) (item ∷ []) ∙ nothing)) h.owed) h.owed
+      (subst (λ (ns : List ℕ). Acknowledges end.version (greatest_of (acknowledged_of p.past)) (ns ++ rest)) (sym (filter_map-append owed_in (packed p.packets) (item ∷ []) ∙ nothing)) h.owed) h.owed
     where
       nothing : owed_by (packed p.packets) ++ owed_by (item ∷ []) ≡ owed_by (packed p.packets)
       nothing = ap (λ (o : Option ℕ). owed_by (packed p.packets) ++ cons_option o []) may.1 ∙ append-nil (owed_by (packed p.packets))

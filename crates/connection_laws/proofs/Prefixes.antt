@@ -16,7 +16,7 @@ use Rattle.connection_model.specs.Windows.{Received, next_of, as_number, applied
 use Rattle.replication_model.specs.Headline.{IsPrefix}
 use Rattle.connection_model.specs.Verdict.{with_told, with_handed}
 use Rattle.connection_laws.specs.Run.{Move, Ticks, Makes, Defers, Sends, Takes, Hears, Hands, Ends, after_move, May, IsRun}
-use Rattle.connection_laws.specs.Delivered.{bunches_made, Numbered, numbered_in, messages_on}
+use Rattle.connection_laws.specs.Delivered.{on_index, bunches_made, Numbered, numbered_in, messages_on}
 use Rattle.connection_laws.proofs.Moves.{making_keeps, told_ignored, handed_ignored}
 use Rattle.connection_laws.proofs.Deeds.{always}
 use Rattle.connection_laws.proofs.Counts.{made_count_made, made_count_elsewhere}
@@ -91,9 +91,9 @@ made_elsewhere past ch c m ne =
 
 -- the messages after one more
 abbrev Listed : Past → (ch c : ℕ) → Message → ℕ → Past → Type 0
-Listed past ch c m zero before = filter_map (numbered_in ch) before ≡ filter_map (numbered_in ch) past
+Listed past ch c m zero before = on_index ch before ≡ on_index ch past
 Listed past ch c m (suc i) before =
-    filter_map (numbered_in ch) before ≡ cond (c == ch) ((made_count past c + 1, m) ∷ filter_map (numbered_in ch) past) (filter_map (numbered_in ch) past)
+    on_index ch before ≡ cond (c == ch) ((made_count past c + 1, m) ∷ on_index ch past) (on_index ch past)
 
 listed_first : (b : Bool) (x : Numbered) (ms ns : List Numbered) → ms ≡ ns → cons_option (then_some (b && true) x) ms ≡ cond b (x ∷ ns) ns
 listed_first true x ms ns e = ap (λ (l : List Numbered). x ∷ l) e
@@ -106,18 +106,18 @@ listed_later false x ms = refl
 listed_step : (past : Past) (ch c : ℕ) (m : Message) (i : ℕ) (before : Past) → Listed past ch c m i before → Listed past ch c m (suc i) (Made c (made_count past c + 1 + i) m i ∷ before)
 listed_step past ch c m zero before h =
     let n : made_count past c + 1 + 0 ≡ made_count past c + 1 = omega arith in
-    ap (λ (k : ℕ). cons_option (then_some ((c == ch) && true) (k, m)) (filter_map (numbered_in ch) before)) n
-    ∙ listed_first (c == ch) (made_count past c + 1, m) (filter_map (numbered_in ch) before) (filter_map (numbered_in ch) past) h
+    ap (λ (k : ℕ). cons_option (then_some ((c == ch) && true) (k, m)) (on_index ch before)) n
+    ∙ listed_first (c == ch) (made_count past c + 1, m) (on_index ch before) (on_index ch past) h
 listed_step past ch c m (suc i) before h =
-    ap (λ (t : Bool). cons_option (then_some ((c == ch) && t) (made_count past c + 1 + suc i, m)) (filter_map (numbered_in ch) before)) (ne_eqb (suc i) 0 (λ q. absurd (omega arith)))
-    ∙ listed_later (c == ch) (made_count past c + 1 + suc i, m) (filter_map (numbered_in ch) before) ∙ h
+    ap (λ (t : Bool). cons_option (then_some ((c == ch) && t) (made_count past c + 1 + suc i, m)) (on_index ch before)) (ne_eqb (suc i) 0 (λ q. absurd (omega arith)))
+    ∙ listed_later (c == ch) (made_count past c + 1 + suc i, m) (on_index ch before) ∙ h
 
 listed_end : (past : Past) (ch c : ℕ) (m : Message) (i : ℕ) (before : Past) → 1 ≤ i → Listed past ch c m i before
-    → filter_map (numbered_in ch) before ≡ cond (c == ch) ((made_count past c + 1, m) ∷ filter_map (numbered_in ch) past) (filter_map (numbered_in ch) past)
+    → on_index ch before ≡ cond (c == ch) ((made_count past c + 1, m) ∷ on_index ch past) (on_index ch past)
 listed_end past ch c m zero before lo h = absurd (omega arith)
 listed_end past ch c m (suc i) before lo h = h
 
-pub messages_made : (past : Past) (ch c : ℕ) (m : Message) → filter_map (numbered_in ch) (after_making past c m) ≡ cond (c == ch) ((made_count past c + 1, m) ∷ filter_map (numbered_in ch) past) (filter_map (numbered_in ch) past)
+pub messages_made : (past : Past) (ch c : ℕ) (m : Message) → on_index ch (after_making past c m) ≡ cond (c == ch) ((made_count past c + 1, m) ∷ on_index ch past) (on_index ch past)
 messages_made past ch c m =
     listed_end past ch c m (parts_of m) (after_making past c m) (some_parts m)
     (making_keeps (Listed past ch c m) past c m refl (λ i before lt h. listed_step past ch c m i before h))
@@ -126,7 +126,7 @@ cut_made : (past : Past) (c : ℕ) (m : Message) → IsCut past → IsCut (after
 cut_made past c m h ch = elim (cases_eq c ch) [
   | inl e ↦ subst (λ (x : ℕ). bunches_made (after_making past c m) x ≡ flat_map (bunches_of x) (messages_on (after_making past c m) x)) e same
   | inr e ↦ made_elsewhere past ch c m e ∙ h ch
-      ∙ ap (λ (l : List Numbered). flat_map (bunches_of ch) (reverse l)) (sym (messages_made past ch c m ∙ ap (λ (b : Bool). cond b ((made_count past c + 1, m) ∷ filter_map (numbered_in ch) past) (filter_map (numbered_in ch) past)) (ne_eqb c ch e)))
+      ∙ ap (λ (l : List Numbered). flat_map (bunches_of ch) (reverse l)) (sym (messages_made past ch c m ∙ ap (λ (b : Bool). cond b ((made_count past c + 1, m) ∷ on_index ch past) (on_index ch past)) (ne_eqb c ch e)))
 ]
   where
     same : bunches_made (after_making past c m) c ≡ flat_map (bunches_of c) (messages_on (after_making past c m) c)
@@ -134,11 +134,11 @@ cut_made past c m h ch = elim (cases_eq c ch) [
         made_more past c m ∙ ap (λ (l : List Bunch). l ++ bunches_of c (made_count past c + 1, m)) (h c)
         ∙ ap (λ (l : List Bunch). flat_map (bunches_of c) (messages_on past c) ++ l) (sym (append-nil (bunches_of c (made_count past c + 1, m))))
         ∙ sym (flat_map-append (bunches_of c) (messages_on past c) ((made_count past c + 1, m) ∷ []))
-        ∙ ap (flat_map (bunches_of c)) (sym (reverse-append ((made_count past c + 1, m) ∷ []) (filter_map (numbered_in c) past)))
-        ∙ ap (λ (l : List Numbered). flat_map (bunches_of c) (reverse l)) (sym (messages_made past c c m ∙ ap (λ (b : Bool). cond b ((made_count past c + 1, m) ∷ filter_map (numbered_in c) past) (filter_map (numbered_in c) past)) (eq-eqb c c refl)))
+        ∙ ap (flat_map (bunches_of c)) (sym (reverse-append ((made_count past c + 1, m) ∷ []) (on_index c past)))
+        ∙ ap (λ (l : List Numbered). flat_map (bunches_of c) (reverse l)) (sym (messages_made past c c m ∙ ap (λ (b : Bool). cond b ((made_count past c + 1, m) ∷ on_index c past) (on_index c past)) (eq-eqb c c refl)))
 
 cut_like : (past later : Past) → ((ch : ℕ) → made_count later ch ≡ made_count past ch) → ((ch n : ℕ) → newest_of (made_as ch n) later ≡ newest_of (made_as ch n) past)
-    → ((ch : ℕ) → filter_map (numbered_in ch) later ≡ filter_map (numbered_in ch) past) → IsCut past → IsCut later
+    → ((ch : ℕ) → on_index ch later ≡ on_index ch past) → IsCut past → IsCut later
 cut_like past later c a n h ch =
     ap (λ (k : ℕ). filter_map (λ n. newest_of (made_as ch n) later) (range_with_len 1 k)) (c ch)
     ∙ found_same (λ n. newest_of (made_as ch n) later) (λ n. newest_of (made_as ch n) past) 1 (made_count past ch) (λ i lo hi. a ch i) ∙ h ch

@@ -14,7 +14,7 @@ use Rattle.connection_model.specs.Items.{made_as}
 use Rattle.connection_model.specs.Windows.{Received, numbers_of, next_of, number_as, Offer, Repeat, Ready, Held, offer_of, with_offer, with_bunch, as_number}
 use Rattle.connection_laws.proofs.Searches.{among_cons, among_here, among_there, least_low, least_below, least_end, newest_hit, newest_miss}
 use Rattle.connection_laws.proofs.Holding.{room_taken}
-use Rattle.connection_laws.proofs.Near.{near_seq}
+use Rattle.connection_laws.proofs.NearNumber.{near_seq}
 
 -- the number was received
 abbrev pub has : List Received → ℕ → Bool

@@ -20,18 +20,18 @@ use Rattle.connection_model.specs.Carry.{updatable_pairs, is_carried}
 use Rattle.connection_model.specs.Settled.{is_settled_as, is_clear}
 use Rattle.connection_model.specs.CallAnswers.{waits_in, waiting_of}
 use Rattle.connection_laws.proofs.Moves.{made_ignored}
-use Rattle.connection_laws.proofs.Shown.{SeenNow, actors_seen_now}
+use Rattle.connection_laws.proofs.ActorsShown.{SeenNow, actors_seen_now}
 use Rattle.connection_model.specs.Items.{due_items, call_item, first_items, actors_by_score}
 use Rattle.connection_model.specs.Pack.{idle_ticks, is_shown, made_if_room, after_close, after_closes, Packing, after_offer, packing_of, is_silent, owes_head, packets_to_send, after_sending, after_stall, after_packing, after_tick}
-use Rattle.connection_laws.specs.Run.{Makes, Sends, MayMake, HasPlace, MaySend, owed_by, owed_in, told_of, Acknowledges}
+use Rattle.connection_laws.specs.Run.{Makes, Sends, MayMake, HasPlace, MaySend, owed_by, owed_in, acknowledged_of, Acknowledges}
 use Rattle.connection_laws.proofs.Searches.{greatest_of-append}
 use Rattle.connection_laws.proofs.Fates.{moves_sent}
 use Rattle.connection_laws.proofs.Counts.{last_sent_sent}
-use Rattle.connection_laws.proofs.Owed.{owed_ascends, owed_taken_before, owed_may_go}
-use Rattle.connection_laws.proofs.Telling.{told_made, since_made, taken_made}
+use Rattle.connection_laws.proofs.OwedAscend.{owed_ascends, owed_taken_before, owed_may_go}
+use Rattle.connection_laws.proofs.AcksInOrder.{told_made, since_made, taken_made}
 use Rattle.connection_laws.proofs.Items.{all_weaker, all_append, MayGo, WaitsLoose, waits_like, may_send_sent, due_may_go, calls_may_go, told_first, told_rest, told_none}
 use Rattle.connection_laws.proofs.Packing.{packed, Packs, PacksOn, offers_past, offers_owed, offers_other, actors_pack}
-use Rattle.connection_laws.proofs.Live.{Goes, IsDone, ended_done, alive_made, unresolved_made}
+use Rattle.connection_laws.proofs.LiveRuns.{Goes, IsDone, ended_done, alive_made, unresolved_made}
 
 -- ---- small messages
 
@@ -55,7 +55,7 @@ pub record IsTicking (end : End) (R : Past → Type 0) (before past : Past) : Ty
   pub alive : has_ended past ≡ false
   pub in_tick : taken_of (deeds_since_tick past) ≡ []
   pub taken : taken_of past ≡ taken_of before
-  pub told : told_of past ≡ told_of before
+  pub told : acknowledged_of past ≡ acknowledged_of before
   pub unresolved : unresolved_count past ≡ unresolved_count before
   pub waits : filter_map waits_in past ≡ filter_map waits_in before
 
@@ -66,7 +66,7 @@ pub record Sendable (end : End) (R : Past → Type 0) (past : Past) (packets : L
   pub in_tick : taken_of (deeds_since_tick past) ≡ []
   pub count : unresolved_count past + length packets ≤ 4096
   pub each : AllByRecursion (MaySend end past) (flat_map (λ (items : List Item). items) packets)
-  pub owed : Acknowledges end.version (greatest_of (told_of past)) (owed_by (flat_map (λ (items : List Item). items) packets))
+  pub owed : Acknowledges end.version (greatest_of (acknowledged_of past)) (owed_by (flat_map (λ (items : List Item). items) packets))
 
 module _ (end : End) (R : Past → Type 0) (g : Goes end R) where
   -- ---- closes
@@ -176,7 +176,7 @@ module _ (end : End) (R : Past → Type 0) (g : Goes end R) where
         open_fates = omega (arith, h.unresolved, few);
         count = omega (arith, h.unresolved, few);
         each = tt;
-        owed = subst (Acknowledges end.version (greatest_of (told_of now))) (sym (append-nil (owed_of end.version before)))
+        owed = subst (Acknowledges end.version (greatest_of (acknowledged_of now))) (sym (append-nil (owed_of end.version before)))
             (subst (λ (ms : List ℕ). Acknowledges end.version (greatest_of ms) (owed_of end.version before)) (sym h.told) (owed_ascends end before (g.is_run before run) end.version));
       }
 
@@ -200,22 +200,22 @@ module _ (end : End) (R : Past → Type 0) (g : Goes end R) where
   one_sent past items packets h =
       let later : List Item = flat_map (λ (xs : List Item). xs) packets in
       let parts = all_left (MaySend end past) items later h.each in
-      let owed : Acknowledges end.version (greatest_of (told_of past)) (owed_by items ++ owed_by later) =
-      subst (Acknowledges end.version (greatest_of (told_of past))) (filter_map-append owed_in items later) h.owed in
-      let top : max (greatest_of (told_of past)) (greatest_of (owed_by items)) ≡ greatest_of (owed_by items ++ told_of past) =
-      omega (arith, greatest_of-append (owed_by items) (told_of past)) in
+      let owed : Acknowledges end.version (greatest_of (acknowledged_of past)) (owed_by items ++ owed_by later) =
+      subst (Acknowledges end.version (greatest_of (acknowledged_of past))) (filter_map-append owed_in items later) h.owed in
+      let top : max (greatest_of (acknowledged_of past)) (greatest_of (owed_by items)) ≡ greatest_of (owed_by items ++ acknowledged_of past) =
+      omega (arith, greatest_of-append (owed_by items) (acknowledged_of past)) in
       record {
         run = g.goes past (Sends items) tt h.run h.alive (record {
           unresolved = omega (arith, h.count);
           in_tick = h.in_tick;
           each = parts.0;
-          told = told_first end.version (greatest_of (told_of past)) (owed_by items) (owed_by later) owed;
+          told = told_first end.version (greatest_of (acknowledged_of past)) (owed_by items) (owed_by later) owed;
         });
         alive = h.alive;
         in_tick = h.in_tick;
         count = omega (arith, h.count, last_sent_sent past items);
         each = all_weaker (MaySend end past) (MaySend end (after_sending past items)) (λ item q. may_send_sent end past items (moves_sent end past (g.is_run past h.run)) parts.0 item q) later parts.1;
-        owed = subst (λ (n : ℕ). Acknowledges end.version n (owed_by later)) top (told_rest end.version (greatest_of (told_of past)) (owed_by items) (owed_by later) owed);
+        owed = subst (λ (n : ℕ). Acknowledges end.version n (owed_by later)) top (told_rest end.version (greatest_of (acknowledged_of past)) (owed_by items) (owed_by later) owed);
       }
 
   pub all_sent : (past : Past) (packets : List (List Item)) → Sendable end R past packets → Sendable end R (fold after_sending past packets) []
@@ -245,15 +245,15 @@ module _ (end : End) (R : Past → Type 0) (g : Goes end R) where
             in_tick = h.in_tick;
             count = omega (arith, h.count, length-reverse p.packets);
             each = subst (AllByRecursion (MaySend end p.past)) (sym e) h.each;
-            owed = subst (λ (items : List Item). Acknowledges end.version (greatest_of (told_of p.past)) (owed_by items)) (sym e)
-                (subst (Acknowledges end.version (greatest_of (told_of p.past))) (append-nil (owed_by (packed p.packets))) h.owed);
+            owed = subst (λ (items : List Item). Acknowledges end.version (greatest_of (acknowledged_of p.past)) (owed_by items)) (sym e)
+                (subst (Acknowledges end.version (greatest_of (acknowledged_of p.past))) (append-nil (owed_by (packed p.packets))) h.owed);
           }
 
       empty : Sendable end R p.past ([] ∷ [])
-      empty = record { run = h.run; alive = h.alive; in_tick = h.in_tick; count = omega (arith, h.open_fates); each = tt; owed = told_none end.version (greatest_of (told_of p.past)) }
+      empty = record { run = h.run; alive = h.alive; in_tick = h.in_tick; count = omega (arith, h.open_fates); each = tt; owed = told_none end.version (greatest_of (acknowledged_of p.past)) }
 
       none : Sendable end R p.past []
-      none = record { run = h.run; alive = h.alive; in_tick = h.in_tick; count = omega (arith, h.open_fates); each = tt; owed = told_none end.version (greatest_of (told_of p.past)) }
+      none = record { run = h.run; alive = h.alive; in_tick = h.in_tick; count = omega (arith, h.open_fates); each = tt; owed = told_none end.version (greatest_of (acknowledged_of p.past)) }
 
   -- ---- the tick
 

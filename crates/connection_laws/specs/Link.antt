@@ -4,6 +4,7 @@ use Rattle.protocol_model.specs.declared.Version.{Version}
 use Rattle.protocol_model.specs.declared.Version.TheVariants.{One, Two}
 use Rattle.protocol_model.specs.Bits.{near}
 use Rattle.protocol_model.specs.Packet.{Head}
+use Rattle.protocol_model.specs.Limits.{packet_modulus, late_distance}
 use Rattle.connection_model.specs.Feed.{End, Past, Sent, Took, Ended, Entry, Told, Item, has_ended}
 use Rattle.connection_model.specs.Fates.{top_of, last_sent, head_of, taken_of}
 use Rattle.connection_model.specs.Pack.{rec_of}
@@ -12,30 +13,30 @@ use Rattle.connection_laws.specs.Run.{Move, Ticks, Makes, Defers, Sends, Takes, 
 
 -- what a packet says: its head in version Two, then its items
 pub data Said : Type 0 where
-  Tells : (head : Head) → Said
-  Holds : (item : Item) → Said
+  SaysHead : (head : Head) → Said
+  SaysItem : (item : Item) → Said
 
--- what is heard of it
+-- the entry as which it is heard
 abbrev pub entry_said : Said → Entry
-entry_said (Tells head) = Told head
-entry_said (Holds item) = entry_of (rec_of item)
+entry_said (SaysHead head) = Told head
+entry_said (SaysItem item) = entry_of (rec_of item)
 
--- what a packet of these items says after this past
+-- what a packet with these items says, if it is sent after this past
 abbrev pub all_said : Version → Past → List Item → List Said
-all_said One past items = map (λ (item : Item). Holds item) items
-all_said Two past items = Tells (head_of Two past) ∷ map (λ (item : Item). Holds item) items
+all_said One past items = map (λ (item : Item). SaysItem item) items
+all_said Two past items = SaysHead (head_of Two past) ∷ map (λ (item : Item). SaysItem item) items
 
--- what packet k said, nothing where it wasn't sent
+-- what packet k said; nothing where none was sent by that number
 abbrev pub said_by : Version → Past → (k : ℕ) → List Said
 said_by v [] k = []
 said_by v (Sent number t items ∷ past) k = if number == k then all_said v past items else said_by v past k
 said_by v (deed ∷ past) k = said_by v past k
 
--- packet k of the other end may come: it was sent, and is at most 8,192 below the last one taken
+-- packet k of the other end may come: it was sent, and isn't too far below the last one taken
 pub record MayCome (me other : Past) (k : ℕ) : Type 0 where
   pub first : 1 ≤ k
   pub sent : k ≤ last_sent other
-  pub recent : top_of me ≤ k + 8192
+  pub recent : top_of me ≤ k + late_distance
 
 -- the packet under way, if there is one, was heard to its end
 abbrev pub IsWhole : Version → (other me : Past) → Type 0
@@ -49,10 +50,10 @@ IsNext v other (Took n entries handed ∷ past) entry =
     × (entries ≡ reverse (map entry_said before)) × (entry ≡ entry_said said)
 IsNext v other past entry = Unit {0}
 
--- a packet is taken that the other end sent, by the number that is read; it is heard in order, and to its end
--- unless the end ends
+-- the move is one over a network that alters nothing: a packet is taken that the other end sent, by the
+-- number that is read of it, and is heard entry by entry, to its end unless this end ends before
 abbrev pub IsHonest : Version → (other me : Past) → Move → Type 0
-IsHonest v other me (Takes n) = IsWhole v other me × ((k : ℕ) × MayCome me other k × (near (k % 16384) (pos (top_of me)) 16384 ≡ pos n))
+IsHonest v other me (Takes n) = IsWhole v other me × ((k : ℕ) × MayCome me other k × (near (k % packet_modulus) (pos (top_of me)) packet_modulus ≡ pos n))
 IsHonest v other me (Hears entry) = IsNext v other me entry
 IsHonest v other me (Hands d) = Unit {0}
 IsHonest v other me (Ends ending) = Unit {0}
@@ -61,7 +62,7 @@ IsHonest v other me (Makes ch message) = IsWhole v other me
 IsHonest v other me (Defers message) = IsWhole v other me
 IsHonest v other me (Sends items) = IsWhole v other me
 
--- the pasts of two ends of one version, after such moves
+-- the pasts that two ends come to by such moves, either of them at a time
 pub data IsLink (left right : End) : Past → Past → Type 0 where
   start : IsLink left right [] []
   left_does : {l r : Past} (move : Move) → IsLink left right l r → has_ended l ≡ false → May left l move → IsHonest left.version r l move
@@ -69,7 +70,11 @@ pub data IsLink (left right : End) : Past → Past → Type 0 where
   right_does : {l r : Past} (move : Move) → IsLink left right l r → has_ended r ≡ false → May right r move → IsHonest right.version l r move
       → IsLink left right l (after_move r move)
 
--- the numbers of the packets that were taken and heard to their end
+-- this holds of two pasts both ways: of what the one sent and the other did, and the other way round
+abbrev pub BothWays : (Past → Past → Type 0) → (l r : Past) → Type 0
+BothWays P l r = P l r × P r l
+
+-- the numbers of the packets that were taken, but for the one under way
 abbrev pub done_of : Past → List ℕ
 done_of (Took n entries handed ∷ past) = taken_of past
 done_of (Ended ending ∷ past) = done_of past

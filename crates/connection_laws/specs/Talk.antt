@@ -7,7 +7,7 @@ use Rattle.connection_model.specs.Past.{past_of}
 use Rattle.connection_model.specs.Pack.{packet_carrying}
 use Rattle.connection_laws.specs.Link.{MayCome}
 
--- packet k as it was sent, if it was
+-- packet k as it was sent, if one was sent by that number
 abbrev pub packet_at : End → Past → (k : ℕ) → Option Packet
 packet_at end [] k = None
 packet_at end (Sent number t items ∷ past) k = if number == k then Some (packet_carrying end past number items) else packet_at end past k
@@ -27,7 +27,7 @@ MayHear mine theirs me other (Tick sight) = Unit {0}
 MayHear mine theirs me other (Call actor number args) = Unit {0}
 MayHear mine theirs me other (Got bytes) = IsPacketOf mine theirs me other bytes
 
--- two feeds, the newest event first
+-- the feeds of two ends of whom each hears only ticks, calls and packets of the other
 pub data IsTalk (left right : End) : List Event → List Event → Type 0 where
   start : IsTalk left right [] []
   left_hears : {l r : List Event} (event : Event) → IsTalk left right l r → MayHear left right (past_of left l) (past_of right r) event

@@ -14,13 +14,13 @@ use Rattle.connection_model.specs.Feed.{End, Past, Ticked, Made, Waits, Sent, To
 use Rattle.connection_model.specs.Fates.{last_sent, sent_in, head_of, taken_of, top_of, top_when, word_count, history_word, history_of, named_numbers}
 use Rattle.connection_model.specs.Bunches.{made_count, after_making}
 use Rattle.connection_model.specs.Verdict.{with_told, with_handed}
-use Rattle.connection_laws.specs.Run.{owed_by, owed_in, told_of, Ascends, Acknowledges}
+use Rattle.connection_laws.specs.Run.{owed_by, owed_in, acknowledged_of, Ascends, Acknowledges}
 use Rattle.connection_laws.specs.Deeds.{DeedsFit}
-use Rattle.connection_laws.specs.Link.{Said, Tells, Holds, all_said, said_by, done_of}
+use Rattle.connection_laws.specs.Link.{Said, SaysHead, SaysItem, all_said, said_by, done_of}
 use Rattle.connection_laws.proofs.Searches.{greatest_of-cons, among_cons, among_there, among_left, among_right, among_most}
 use Rattle.connection_laws.proofs.Moves.{making_keeps}
 use Rattle.connection_laws.proofs.Spans.{some_parts}
-use Rattle.connection_laws.proofs.Said.{Among, in_either, said_sent}
+use Rattle.connection_laws.proofs.PacketsSay.{IsIn, in_either, said_sent}
 
 -- ---- what was heard to its end was taken
 
@@ -62,14 +62,14 @@ done_handed d past = refl
 
 -- the number that is acknowledged
 abbrev pub ack_in : Said → Option ℕ
-ack_in (Holds item) = owed_in item
-ack_in (Tells head) = None
+ack_in (SaysItem item) = owed_in item
+ack_in (SaysHead head) = None
 
 -- those of packet k
 abbrev pub acks_by : Version → Past → ℕ → List ℕ
 acks_by v past k = filter_map ack_in (said_by v past k)
 
-held_acks : (items : List Item) → filter_map ack_in (map (λ (item : Item). Holds item) items) ≡ owed_by items
+held_acks : (items : List Item) → filter_map ack_in (map (λ (item : Item). SaysItem item) items) ≡ owed_by items
 held_acks [] = refl
 held_acks (item ∷ items) = ap (cons_option (owed_in item)) (held_acks items)
 
@@ -78,14 +78,14 @@ acks_said One past items = held_acks items
 acks_said Two past items = held_acks items
 
 -- some ack was said in a packet that was sent
-ack_said : (said : List Said) (x : ℕ) → is_among x (filter_map ack_in said) ≡ true → (s : Said) × Among s said
+ack_said : (said : List Said) (x : ℕ) → is_among x (filter_map ack_in said) ≡ true → (s : Said) × IsIn s said
 ack_said [] x h = absurd (false≢true h)
 ack_said (s ∷ said) x h = (s, inl refl)
 
 pub ack_sent : (end : End) (v : Version) (past : Past) → DeedsFit end past → (x k : ℕ) → is_among x (acks_by v past k) ≡ true → k ≤ last_sent past
 ack_sent end v past fit x k h = (let s = ack_said (said_by v past k) x h in (said_sent end v past fit s.0 k s.1).1)
 
-pub acks_told : (v : Version) (past : Past) (x k : ℕ) → is_among x (acks_by v past k) ≡ true → is_among x (told_of past) ≡ true
+pub acks_told : (v : Version) (past : Past) (x k : ℕ) → is_among x (acks_by v past k) ≡ true → is_among x (acknowledged_of past) ≡ true
 acks_told v [] x k h = absurd (false≢true h)
 acks_told v (Ticked t s ∷ past) x k h = acks_told v past x k h
 acks_told v (Made c n m i ∷ past) x k h = acks_told v past x k h
@@ -94,10 +94,10 @@ acks_told v (Took n es ds ∷ past) x k h = acks_told v past x k h
 acks_told v (Ended g ∷ past) x k h = acks_told v past x k h
 acks_told v (Sent number t items ∷ past) x k h = by (number == k) h (λ q. acks_told v past x k q)
   where
-    by : (b : Bool) → is_among x (filter_map ack_in (cond b (all_said v past items) (said_by v past k))) ≡ true → (is_among x (acks_by v past k) ≡ true → is_among x (told_of past) ≡ true)
-        → is_among x (owed_by items ++ told_of past) ≡ true
-    by true h ih = among_left (owed_by items) (told_of past) x (ap (is_among x) (sym (acks_said v past items)) ∙ h)
-    by false h ih = among_right (owed_by items) (told_of past) x (ih h)
+    by : (b : Bool) → is_among x (filter_map ack_in (cond b (all_said v past items) (said_by v past k))) ≡ true → (is_among x (acks_by v past k) ≡ true → is_among x (acknowledged_of past) ≡ true)
+        → is_among x (owed_by items ++ acknowledged_of past) ≡ true
+    by true h ih = among_left (owed_by items) (acknowledged_of past) x (ap (is_among x) (sym (acks_said v past items)) ∙ h)
+    by false h ih = among_right (owed_by items) (acknowledged_of past) x (ih h)
 
 ascends_above : (low : ℕ) (ns : List ℕ) (x : ℕ) → Ascends low ns → is_among x ns ≡ true → low < x
 ascends_above low [] x h e = absurd (false≢true e)
@@ -124,11 +124,11 @@ acks_ascend end one v (Took n es ds ∷ past) fit k = acks_ascend end one v past
 acks_ascend end one v (Ended g ∷ past) fit k = acks_ascend end one v past fit.1 k
 acks_ascend end one v (Sent number t items ∷ past) fit k = by (number == k) (acks_ascend end one v past fit.1 k)
   where
-    ascends : Ascends (greatest_of (told_of past)) (owed_by items)
-    ascends = subst (λ (w : Version). Acknowledges w (greatest_of (told_of past)) (owed_by items)) one fit.0.2.told
+    ascends : Ascends (greatest_of (acknowledged_of past)) (owed_by items)
+    ascends = subst (λ (w : Version). Acknowledges w (greatest_of (acknowledged_of past)) (owed_by items)) one fit.0.2.told
 
     by : (b : Bool) → Ascends 0 (acks_by v past k) → Ascends 0 (filter_map ack_in (cond b (all_said v past items) (said_by v past k)))
-    by true ih = subst (Ascends 0) (sym (acks_said v past items)) (ascends_lower (greatest_of (told_of past)) (owed_by items) ascends)
+    by true ih = subst (Ascends 0) (sym (acks_said v past items)) (ascends_lower (greatest_of (acknowledged_of past)) (owed_by items) ascends)
     by false ih = ih
 
 -- and from packet to packet
@@ -143,8 +143,8 @@ acks_order end one v (Ended g ∷ past) fit j k x y lt h i = acks_order end one 
 acks_order end one v (Sent number t items ∷ past) fit j k x y lt h i =
     by (number == j) (number == k) refl refl h i (λ p q. acks_order end one v past fit.1 j k x y lt p q)
   where
-    ascends : Ascends (greatest_of (told_of past)) (owed_by items)
-    ascends = subst (λ (w : Version). Acknowledges w (greatest_of (told_of past)) (owed_by items)) one fit.0.2.told
+    ascends : Ascends (greatest_of (acknowledged_of past)) (owed_by items)
+    ascends = subst (λ (w : Version). Acknowledges w (greatest_of (acknowledged_of past)) (owed_by items)) one fit.0.2.told
 
     by : (b c : Bool) → (number == j) ≡ b → (number == k) ≡ c
         → is_among x (filter_map ack_in (cond b (all_said v past items) (said_by v past j))) ≡ true
@@ -156,8 +156,8 @@ acks_order end one v (Sent number t items ∷ past) fit j k x y lt h i =
         let s : k ≤ last_sent past = ack_sent end v past fit.1 y k i in
         absurd (omega (arith, fit.0.0))
     by false true p q h i ih =
-        let le : x ≤ greatest_of (told_of past) = among_most (told_of past) x (acks_told v past x j h) in
-        let gt : greatest_of (told_of past) < y = ascends_above (greatest_of (told_of past)) (owed_by items) y ascends (ap (is_among y) (sym (acks_said v past items)) ∙ i) in
+        let le : x ≤ greatest_of (acknowledged_of past) = among_most (acknowledged_of past) x (acks_told v past x j h) in
+        let gt : greatest_of (acknowledged_of past) < y = ascends_above (greatest_of (acknowledged_of past)) (owed_by items) y ascends (ap (is_among y) (sym (acks_said v past items)) ∙ i) in
         omega arith
     by false false p q h i ih = ih h i
 
@@ -172,7 +172,7 @@ no_acks end two v (Ended g ∷ past) fit k = no_acks end two v past fit.1 k
 no_acks end two v (Sent number t items ∷ past) fit k = by (number == k) (no_acks end two v past fit.1 k)
   where
     none : owed_by items ≡ []
-    none = subst (λ (w : Version). Acknowledges w (greatest_of (told_of past)) (owed_by items)) two fit.0.2.told
+    none = subst (λ (w : Version). Acknowledges w (greatest_of (acknowledged_of past)) (owed_by items)) two fit.0.2.told
 
     by : (b : Bool) → acks_by v past k ≡ [] → filter_map ack_in (cond b (all_said v past items) (said_by v past k)) ≡ []
     by true ih = acks_said v past items ∙ none
@@ -248,22 +248,22 @@ taken_positive end (Took n es ds ∷ past) fit = elim (cases_Bool (is_among 0 (n
 same_facts : (past later : Past) (k : ℕ) (head : Head) → top_when later k ≡ top_when past k → ((x : ℕ) → is_among x (done_of past) ≡ true → is_among x (done_of later) ≡ true) → HeadFacts past k head → HeadFacts later k head
 same_facts past later k head t d f = record { before = f.before; is = f.is; top = f.top ∙ sym t; taken = λ x h. d x (f.taken x h); positive = f.positive }
 
-tells_head : (past : Past) (items : List Item) (head : Head) → Among (Tells head) (all_said Two past items) → head_of Two past ≡ head
+tells_head : (past : Past) (items : List Item) (head : Head) → IsIn (SaysHead head) (all_said Two past items) → head_of Two past ≡ head
 tells_head past items head (inl e) = same e
   where
-    same : Tells (head_of Two past) ≡ Tells head → head_of Two past ≡ head
+    same : SaysHead (head_of Two past) ≡ SaysHead head → head_of Two past ≡ head
     same e = cc
 tells_head past items head (inr h) = absurd (none items h)
   where
-    none : (items : List Item) → Among (Tells head) (map (λ (item : Item). Holds item) items) → ⊥
+    none : (items : List Item) → IsIn (SaysHead head) (map (λ (item : Item). SaysItem item) items) → ⊥
     none [] h = h
     none (item ∷ items) (inl e) = no e
       where
-        no : Holds item ≡ Tells head → ⊥
+        no : SaysItem item ≡ SaysHead head → ⊥
         no e = cc
     none (item ∷ items) (inr h) = none items h
 
-pub head_facts : (end : End) (past : Past) → DeedsFit end past → (k : ℕ) (head : Head) → Among (Tells head) (said_by Two past k) → HeadFacts past k head
+pub head_facts : (end : End) (past : Past) → DeedsFit end past → (k : ℕ) (head : Head) → IsIn (SaysHead head) (said_by Two past k) → HeadFacts past k head
 head_facts end [] fit k head h = absurd h
 head_facts end (Ticked t s ∷ past) fit k head h = same_facts past (Ticked t s ∷ past) k head refl (done_taken past) (head_facts end past fit.1 k head h)
 head_facts end (Made c n m i ∷ past) fit k head h = same_facts past (Made c n m i ∷ past) k head refl (done_taken past) (head_facts end past fit.1 k head h)
@@ -272,7 +272,7 @@ head_facts end (Took n es ds ∷ past) fit k head h = same_facts past (Took n es
 head_facts end (Ended g ∷ past) fit k head h = same_facts past (Ended g ∷ past) k head refl (λ x q. q) (head_facts end past fit.1 k head h)
 head_facts end (Sent number t items ∷ past) fit k head h = by (number == k) refl h (λ q. head_facts end past fit.1 k head q)
   where
-    by : (b : Bool) → (number == k) ≡ b → Among (Tells head) (cond b (all_said Two past items) (said_by Two past k)) → (Among (Tells head) (said_by Two past k) → HeadFacts past k head)
+    by : (b : Bool) → (number == k) ≡ b → IsIn (SaysHead head) (cond b (all_said Two past items) (said_by Two past k)) → (IsIn (SaysHead head) (said_by Two past k) → HeadFacts past k head)
         → HeadFacts (Sent number t items ∷ past) k head
     by true e h ih = record {
       before = past;
@@ -304,13 +304,13 @@ digits-number (false ∷ bits) =
 
 module _ (ts : List ℕ) (top : ℕ) (positive : is_among 0 ts ≡ false) where
   -- the numbers named in a word that begins `base` below the top
-  word_names : (base i count : ℕ) (z : ℤ) → Among z (named_numbers (pos top -ℤ pos (base + i)) (map (λ (j : ℕ). is_among (top - base - j) ts) (range_with_len i count)))
+  word_names : (base i count : ℕ) (z : ℤ) → IsIn z (named_numbers (pos top -ℤ pos (base + i)) (map (λ (j : ℕ). is_among (top - base - j) ts) (range_with_len i count)))
       → (n : ℕ) → z ≡ pos n → is_among n ts ≡ true
   word_names base i zero z h n e = absurd h
   word_names base i (suc count) z h n e =
       let next : (pos top -ℤ pos (base + i)) -ℤ pos 1 ≡ pos top -ℤ pos (base + (i + 1)) = omega (arith, ints) in
       by (is_among (top - base - i) ts) refl h
-      (λ q. word_names base (i + 1) count z (subst (λ (a : ℤ). Among z (named_numbers a (map (λ (j : ℕ). is_among (top - base - j) ts) (range_with_len (i + 1) count)))) next q) n e)
+      (λ q. word_names base (i + 1) count z (subst (λ (a : ℤ). IsIn z (named_numbers a (map (λ (j : ℕ). is_among (top - base - j) ts) (range_with_len (i + 1) count)))) next q) n e)
     where
       here : is_among (top - base - i) ts ≡ true → pos top -ℤ pos (base + i) ≡ z → is_among n ts ≡ true
       here t q = elim (cases_lt top (base + i)) [
@@ -321,8 +321,8 @@ module _ (ts : List ℕ) (top : ℕ) (positive : is_among 0 ts ≡ false) where
             ap (λ (k : ℕ). is_among k ts) (sym is) ∙ t)
       ]
 
-      by : (b : Bool) → is_among (top - base - i) ts ≡ b → Among z (named_numbers (pos top -ℤ pos (base + i)) (b ∷ map (λ (j : ℕ). is_among (top - base - j) ts) (range_with_len (i + 1) count)))
-          → (Among z (named_numbers ((pos top -ℤ pos (base + i)) -ℤ pos 1) (map (λ (j : ℕ). is_among (top - base - j) ts) (range_with_len (i + 1) count))) → is_among n ts ≡ true) → is_among n ts ≡ true
+      by : (b : Bool) → is_among (top - base - i) ts ≡ b → IsIn z (named_numbers (pos top -ℤ pos (base + i)) (b ∷ map (λ (j : ℕ). is_among (top - base - j) ts) (range_with_len (i + 1) count)))
+          → (IsIn z (named_numbers ((pos top -ℤ pos (base + i)) -ℤ pos 1) (map (λ (j : ℕ). is_among (top - base - j) ts) (range_with_len (i + 1) count))) → is_among n ts ≡ true) → is_among n ts ≡ true
       by true t (inl q) ih = here t q
       by true t (inr q) ih = ih q
       by false t q ih = ih q
@@ -330,7 +330,7 @@ module _ (ts : List ℕ) (top : ℕ) (positive : is_among 0 ts ≡ false) where
 -- a history names what was taken
 module _ (before : Past) (positive : is_among 0 (taken_of before) ≡ false) where
   words_name : (w count : ℕ) (z : ℤ)
-      → Among z (named_numbers (pos (top_of before) -ℤ pos (32 * w)) (flat_map (λ word. fixed_bits 32 word) (map (λ w. history_word before (top_of before - 32 * w)) (range_with_len w count))))
+      → IsIn z (named_numbers (pos (top_of before) -ℤ pos (32 * w)) (flat_map (λ word. fixed_bits 32 word) (map (λ w. history_word before (top_of before - 32 * w)) (range_with_len w count))))
       → (n : ℕ) → z ≡ pos n → is_among n (taken_of before) ≡ true
   words_name w zero z h n e = absurd h
   words_name w (suc count) z h n e =
@@ -339,17 +339,17 @@ module _ (before : Past) (positive : is_among 0 (taken_of before) ≡ false) whe
       let long : length bits ≡ 32 = length-map-range_with_len (λ (j : ℕ). is_among (top_of before - 32 * w - j) (taken_of before)) 0 32 in
       let spelled : fixed_bits 32 (history_word before (top_of before - 32 * w)) ≡ bits =
       subst (λ (k : ℕ). digits k (number_of bits) ≡ bits) long (digits-number bits) in
-      let split : Among z (named_numbers (pos (top_of before) -ℤ pos (32 * w)) bits ++ named_numbers ((pos (top_of before) -ℤ pos (32 * w)) -ℤ pos (length bits)) rest) =
-      subst (Among z) (ap (λ (bs : List Bool). named_numbers (pos (top_of before) -ℤ pos (32 * w)) (bs ++ rest)) spelled ∙ named-append (pos (top_of before) -ℤ pos (32 * w)) bits rest) h in
+      let split : IsIn z (named_numbers (pos (top_of before) -ℤ pos (32 * w)) bits ++ named_numbers ((pos (top_of before) -ℤ pos (32 * w)) -ℤ pos (length bits)) rest) =
+      subst (IsIn z) (ap (λ (bs : List Bool). named_numbers (pos (top_of before) -ℤ pos (32 * w)) (bs ++ rest)) spelled ∙ named-append (pos (top_of before) -ℤ pos (32 * w)) bits rest) h in
       let next : (pos (top_of before) -ℤ pos (32 * w)) -ℤ pos (length bits) ≡ pos (top_of before) -ℤ pos (32 * (w + 1)) = omega (arith, ints, long) in
       let start : 32 * w ≡ 32 * w + 0 = omega arith in
       elim (in_either z (named_numbers (pos (top_of before) -ℤ pos (32 * w)) bits) (named_numbers ((pos (top_of before) -ℤ pos (32 * w)) -ℤ pos (length bits)) rest) split) [
-        | inl q ↦ word_names (taken_of before) (top_of before) positive (32 * w) 0 32 z (subst (λ (k : ℕ). Among z (named_numbers (pos (top_of before) -ℤ pos k) bits)) start q) n e
-        | inr q ↦ words_name (w + 1) count z (subst (λ (a : ℤ). Among z (named_numbers a rest)) next q) n e
+        | inl q ↦ word_names (taken_of before) (top_of before) positive (32 * w) 0 32 z (subst (λ (k : ℕ). IsIn z (named_numbers (pos (top_of before) -ℤ pos k) bits)) start q) n e
+        | inr q ↦ words_name (w + 1) count z (subst (λ (a : ℤ). IsIn z (named_numbers a rest)) next q) n e
       ]
 
-  pub history_names : (z : ℤ) → Among z (named_numbers (pos (top_of before)) (history_of (head_of Two before))) → (n : ℕ) → z ≡ pos n → is_among n (taken_of before) ≡ true
+  pub history_names : (z : ℤ) → IsIn z (named_numbers (pos (top_of before)) (history_of (head_of Two before))) → (n : ℕ) → z ≡ pos n → is_among n (taken_of before) ≡ true
   history_names z h n e =
       let zero_less : pos (top_of before) ≡ pos (top_of before) -ℤ pos (32 * 0) = omega (arith, ints) in
       words_name 0 (word_count before) z
-      (subst (λ (a : ℤ). Among z (named_numbers a (history_of (head_of Two before)))) zero_less h) n e
+      (subst (λ (a : ℤ). IsIn z (named_numbers a (history_of (head_of Two before)))) zero_less h) n e

@@ -9,12 +9,12 @@ use Rattle.protocol_model.specs.declared.Version.TheVariants.{One, Two}
 use Rattle.protocol_model.specs.Search.{is_among, greatest_of, items_since}
 use Rattle.connection_model.specs.Feed.{End, Past, Owed, has_ended, is_tick, deeds_since_tick}
 use Rattle.connection_model.specs.Fates.{taken_of, taken_in, owed_of}
-use Rattle.connection_laws.specs.Run.{Move, Ticks, Makes, Defers, Sends, Takes, Hears, Hands, Ends, after_move, May, IsRun, MaySend, Ascends, Acknowledges, told_of}
-use Rattle.connection_laws.specs.Telling.{TellsTaken}
+use Rattle.connection_laws.specs.Run.{Move, Ticks, Makes, Defers, Sends, Takes, Hears, Hands, Ends, after_move, May, IsRun, MaySend, Ascends, Acknowledges, acknowledged_of}
+use Rattle.connection_laws.specs.Acknowledged.{AcknowledgesTaken}
 use Rattle.connection_laws.specs.Taken.{Falls}
 use Rattle.connection_laws.proofs.Searches.{among_cons, among_append, among_here, among_there, among_left, greatest_of-cons, greatest_of-append, greatest_in}
 use Rattle.connection_laws.proofs.Deeds.{always}
-use Rattle.connection_laws.proofs.Telling.{tells_taken, taken_made, taken_told, taken_handed}
+use Rattle.connection_laws.proofs.AcksInOrder.{tells_taken, taken_made, taken_told, taken_handed}
 
 -- ---- the numbers taken
 
@@ -82,20 +82,20 @@ among_reverse (x ∷ xs) n h = elim (among_append (reverse xs) (x ∷ []) n (ap 
 among_take : (k : ℕ) (xs : List ℕ) (n : ℕ) → is_among n (take k xs) ≡ true → is_among n xs ≡ true
 among_take k xs n h = ap (is_among n) (sym (take-append-drop k xs)) ∙ among_left (take k xs) (drop k xs) n h
 
-pub owed_ascends : (end : End) (past : Past) → IsRun end past → (v : Version) → Acknowledges v (greatest_of (told_of past)) (owed_of v past)
+pub owed_ascends : (end : End) (past : Past) → IsRun end past → (v : Version) → Acknowledges v (greatest_of (acknowledged_of past)) (owed_of v past)
 owed_ascends end past run Two = refl
 owed_ascends end past run One =
     let since : List ℕ = taken_of (deeds_since_tick past) in
     let begins = taken_since_begins past in
     let falls : Falls since = falls_first since begins.0 (subst Falls begins.1 (taken_falls end past run)) in
-    let tells : TellsTaken past = tells_taken end past run in
-    falls_ascends (greatest_of (told_of past)) (take 512 since) (falls_first (take 512 since) (drop 512 since) (subst Falls (sym (take-append-drop 512 since)) falls))
+    let tells : AcknowledgesTaken past = tells_taken end past run in
+    falls_ascends (greatest_of (acknowledged_of past)) (take 512 since) (falls_first (take 512 since) (drop 512 since) (subst Falls (sym (take-append-drop 512 since)) falls))
     (λ n e. above n (among_take 512 since n e) tells)
   where
-    above : (n : ℕ) → is_among n (taken_of (deeds_since_tick past)) ≡ true → TellsTaken past → greatest_of (told_of past) < n
-    above n e tells = elim (greatest_in (told_of past)) [
+    above : (n : ℕ) → is_among n (taken_of (deeds_since_tick past)) ≡ true → AcknowledgesTaken past → greatest_of (acknowledged_of past) < n
+    above n e tells = elim (greatest_in (acknowledged_of past)) [
       | inl q ↦ (let pos : 0 < n = positive n e in omega arith)
-      | inr q ↦ tells.order (greatest_of (told_of past)) n q e
+      | inr q ↦ tells.order (greatest_of (acknowledged_of past)) n q e
     ]
       where
         positive : (n : ℕ) → is_among n (taken_of (deeds_since_tick past)) ≡ true → 0 < n

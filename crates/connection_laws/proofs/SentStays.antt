@@ -20,9 +20,9 @@ use Rattle.connection_model.specs.Pack.{packet_carrying}
 use Rattle.connection_model.specs.Verdict.{with_told, with_handed, entry_result, after_entries, entries_in, after_packet, after_reading}
 use Rattle.connection_laws.specs.Run.{Move, Ticks, Makes, Defers, Sends, Takes, Hears, Hands, Ends, after_move, May, IsRun}
 use Rattle.connection_laws.specs.Run.IsRun.{does}
-use Rattle.connection_laws.specs.Out.{SendsMore}
+use Rattle.connection_laws.specs.SentStays.{SendsMore}
 use Rattle.connection_laws.proofs.Moves.{making_keeps}
-use Rattle.connection_laws.proofs.Live.{IsQuiet, Goes, IsDone}
+use Rattle.connection_laws.proofs.LiveRuns.{IsQuiet, Goes, IsDone}
 use Rattle.connection_laws.proofs.Calling.{call_runs}
 use Rattle.connection_laws.proofs.Hearing.{entry_runs}
 use Rattle.connection_laws.proofs.Ticking.{tick_runs}

@@ -18,9 +18,9 @@ use Rattle.std.specs.Prelude.{int_lt}
 use Rattle.std.specs.List.{filter_map, cons_option, slice_get}
 use Rattle.std.specs.Bool.{then_some}
 use Rattle.std.proofs.lemmas.Bool.Decides.{nat_tests}
-use Rattle.connection_laws.proofs.Said.{Among}
+use Rattle.connection_laws.proofs.PacketsSay.{IsIn}
 use Rattle.connection_model.specs.Pack.{after_sending}
-use Rattle.connection_laws.specs.Run.{Move, Ticks, Makes, Defers, Sends, Takes, Hears, Hands, Ends, after_move, May, IsRun, told_of, told_in}
+use Rattle.connection_laws.specs.Run.{Move, Ticks, Makes, Defers, Sends, Takes, Hears, Hands, Ends, after_move, May, IsRun, acknowledged_of, acknowledged_in}
 use Rattle.connection_laws.specs.Run.IsRun.{does, start as run_start}
 use Rattle.connection_laws.specs.Link.{entry_said, said_by, MayCome, IsWhole, IsNext, IsHonest, IsLink, done_of}
 use Rattle.connection_laws.specs.Link.IsLink.{start, left_does, right_does}
@@ -32,16 +32,16 @@ use Rattle.connection_laws.proofs.Counts.{made_count_grows, last_sent_sent}
 use Rattle.connection_laws.proofs.Arrivals.{moved_made}
 use Rattle.connection_laws.proofs.Fates.{last_sent_made, fates_fit}
 use Rattle.connection_laws.proofs.Spans.{some_parts}
-use Rattle.connection_laws.proofs.Telling.{told_made, taken_made, tells_taken}
+use Rattle.connection_laws.proofs.AcksInOrder.{told_made, taken_made, tells_taken}
 use Rattle.connection_laws.proofs.Items.{made_stays}
-use Rattle.connection_laws.proofs.Said.{said_made, said_old}
-use Rattle.connection_laws.proofs.Told.{done_made, done_told, done_handed, done_taken}
-use Rattle.connection_laws.proofs.Core.{Way, Core, core_start, core_from, core_to, core_takes, core_hears, reads_packet, high_at_most}
-use Rattle.connection_laws.proofs.Fresh.{Fresh, HeadWaits, left_of, fresh_start, fresh_me, fresh_takes, fresh_other, fresh_sends, Told1, NamesSent, next_one, next_two, next_names_one, next_names_two}
+use Rattle.connection_laws.proofs.PacketsSay.{said_made, said_old}
+use Rattle.connection_laws.proofs.AcksTaken.{done_made, done_told, done_handed, done_taken}
+use Rattle.connection_laws.proofs.Transfer.{Way, Transfers, core_start, core_from, core_to, core_takes, core_hears, reads_packet, high_at_most}
+use Rattle.connection_laws.proofs.AcksRead.{Fresh, HeadWaits, left_of, fresh_start, fresh_me, fresh_takes, fresh_other, fresh_sends, Told1, NamesSent, next_one, next_two, next_names_one, next_names_two}
 
 pub record Both (v : Version) (me other : Past) : Type 0 where
-  pub out : Core v me other
-  pub back : Core v other me
+  pub out : Transfers v me other
+  pub back : Transfers v other me
   pub heard : Fresh v me other
   pub said : Fresh v other me
 
@@ -51,9 +51,9 @@ turned v me other b = record { out = b.back; back = b.out; heard = b.said; said 
 -- ---- what was told was heard to its end
 
 abbrev TellsDone : Past → Type 0
-TellsDone past = (x : ℕ) → is_among x (told_of past) ≡ true → is_among x (done_of past) ≡ true
+TellsDone past = (x : ℕ) → is_among x (acknowledged_of past) ≡ true → is_among x (done_of past) ≡ true
 
-pub tells_done : (end : End) (past : Past) → IsRun end past → (x : ℕ) → is_among x (told_of past) ≡ true → is_among x (done_of past) ≡ true
+pub tells_done : (end : End) (past : Past) → IsRun end past → (x : ℕ) → is_among x (acknowledged_of past) ≡ true → is_among x (done_of past) ≡ true
 tells_done end past run = always end TellsDone (λ x h. absurd (false≢true h)) step past run
   where
     step : (past : Past) (move : Move) → IsRun end past → has_ended past ≡ false → May end past move → TellsDone past → TellsDone (after_move past move)
@@ -63,9 +63,9 @@ tells_done end past run = always end TellsDone (λ x h. absurd (false≢true h))
     step past (Sends items) run alive may h x q = (tells_taken end (after_sending past items) (does (Sends items) run alive may)).taken x q
     step past (Takes n) run alive may h x q = (tells_taken end past run).taken x q
     step past (Hears entry) run alive may h x q =
-        ap (is_among x) (done_told entry past) ∙ h x (ap (is_among x) (sym (told_ignored_all told_in (λ n e es ds. refl) entry past)) ∙ q)
+        ap (is_among x) (done_told entry past) ∙ h x (ap (is_among x) (sym (told_ignored_all acknowledged_in (λ n e es ds. refl) entry past)) ∙ q)
     step past (Hands d) run alive may h x q =
-        ap (is_among x) (done_handed d past) ∙ h x (ap (is_among x) (sym (handed_ignored_all told_in (λ n es d ds. refl) d past)) ∙ q)
+        ap (is_among x) (done_handed d past) ∙ h x (ap (is_among x) (sym (handed_ignored_all acknowledged_in (λ n es d ds. refl) d past)) ∙ q)
     step past (Ends ending) run alive may h x q = h x q
 
 -- ---- a message is made
@@ -98,7 +98,7 @@ module _ (v : Version) (mine theirs : End) (mv : mine.version ≡ v) (tv : their
       → ((ch n : ℕ) → n ≤ made_count me ch → newest_of (made_as ch n) later ≡ newest_of (made_as ch n) me)
       → taken_of later ≡ taken_of me → done_of later ≡ taken_of me → ((ch : ℕ) → received_on later ch ≡ received_on me ch)
       → Way v other later × (left_of v later other ≡ []) × HeadWaits later other
-      → told_of later ≡ told_of me → ((k : ℕ) → top_when later k ≡ top_when me k) → Both v later other
+      → acknowledged_of later ≡ acknowledged_of me → ((k : ℕ) → top_when later k ≡ top_when me k) → Both v later other
   quiet me later b alive whole s l m c a t d r w o p = record {
     out = core_from v me later other b.out (λ k le. s k) (omega (arith, l)) (λ k h. inl (ap (is_among k) (sym m) ∙ h)) c a;
     back = core_to v other me later b.back alive whole t d r w.0;
@@ -256,7 +256,7 @@ both v left right lv rv l r (right_does {l = a} {r = b} move link alive may hone
 
 -- ---- what is heard next names what was sent
 
-none_above : (l : ℕ) (zs : List ℤ) → ((z : ℤ) → Among z zs → (x : ℕ) → z ≡ pos x → x ≤ l) → newest_of (λ a. then_some (int_lt (pos l) a) (BadAck a l)) zs ≡ None
+none_above : (l : ℕ) (zs : List ℤ) → ((z : ℤ) → IsIn z zs → (x : ℕ) → z ≡ pos x → x ≤ l) → newest_of (λ a. then_some (int_lt (pos l) a) (BadAck a l)) zs ≡ None
 none_above l [] h = refl
 none_above l (negsuc n ∷ zs) h = none_above l zs (λ z q. h z (inr q))
 none_above l (pos n ∷ zs) h = ap (λ (b : Bool). slice_get (cons_option (then_some b (BadAck (pos n) l)) (filter_map (λ a. then_some (int_lt (pos l) a) (BadAck a l)) zs)) 0) (low n (h (pos n) (inl refl) n refl)) ∙ none_above l zs (λ z q. h z (inr q))

@@ -25,7 +25,7 @@ use Rattle.connection_laws.specs.Run.{Move, Ticks, Makes, Defers, Sends, Takes, 
 use Rattle.connection_laws.specs.Run.IsRun.{does}
 use Rattle.connection_laws.specs.Delivered.{ReadFrom, ReadEach, handed_reliably, is_closed_by, HandsReceived}
 use Rattle.connection_laws.proofs.Moves.{made_ignored_all}
-use Rattle.connection_laws.proofs.Live.{IsQuiet, Goes, IsDone}
+use Rattle.connection_laws.proofs.LiveRuns.{IsQuiet, Goes, IsDone}
 use Rattle.connection_laws.proofs.Calling.{call_runs}
 use Rattle.connection_laws.proofs.Ticking.{tick_runs}
 use Rattle.connection_laws.proofs.Feeds.{feed_done, ended_stays}

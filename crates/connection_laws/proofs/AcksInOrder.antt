@@ -8,16 +8,16 @@ use Rattle.connection_model.specs.Feed.{End, Past, Took, Entry, Delivered, Item,
 use Rattle.connection_model.specs.Fates.{taken_of, taken_in, top_of}
 use Rattle.connection_model.specs.Bunches.{after_making}
 use Rattle.connection_model.specs.Verdict.{with_told, with_handed}
-use Rattle.connection_laws.specs.Run.{Move, Ticks, Makes, Defers, Sends, Takes, Hears, Hands, Ends, after_move, May, IsRun, MaySend, owed_by, told_of, told_in}
-use Rattle.connection_laws.specs.Telling.{TellsTaken}
+use Rattle.connection_laws.specs.Run.{Move, Ticks, Makes, Defers, Sends, Takes, Hears, Hands, Ends, after_move, May, IsRun, MaySend, owed_by, acknowledged_of, acknowledged_in}
+use Rattle.connection_laws.specs.Acknowledged.{AcknowledgesTaken}
 use Rattle.connection_laws.proofs.Searches.{among_cons, among_append, among_there, among_most}
 use Rattle.connection_laws.proofs.Moves.{making_keeps, made_ignored, made_ignored_all, told_ignored, handed_ignored, told_ignored_all, handed_ignored_all}
 use Rattle.connection_laws.proofs.Deeds.{always}
 
 -- ---- what stays
 
-pub told_made : (past : Past) (ch : ℕ) (m : Message) → told_of (after_making past ch m) ≡ told_of past
-told_made past ch m = made_ignored_all told_in (λ c n m i. refl) past ch m
+pub told_made : (past : Past) (ch : ℕ) (m : Message) → acknowledged_of (after_making past ch m) ≡ acknowledged_of past
+told_made past ch m = made_ignored_all acknowledged_in (λ c n m i. refl) past ch m
 
 pub taken_made : (past : Past) (ch : ℕ) (m : Message) → taken_of (after_making past ch m) ≡ taken_of past
 taken_made past ch m = made_ignored taken_in (λ c n m i. refl) past ch m
@@ -51,20 +51,20 @@ owed_taken end past (Owed n ∷ items) all x h = elim (among_cons n (owed_by ite
 owed_taken end past (Carries c k b ∷ items) all x h = owed_taken end past items all.1 x h
 owed_taken end past (Loose m b ∷ items) all x h = owed_taken end past items all.1 x h
 
-tells_like : (past later : Past) → told_of later ≡ told_of past → taken_of later ≡ taken_of past
-    → taken_of (deeds_since_tick later) ≡ taken_of (deeds_since_tick past) → TellsTaken past → TellsTaken later
+tells_like : (past later : Past) → acknowledged_of later ≡ acknowledged_of past → taken_of later ≡ taken_of past
+    → taken_of (deeds_since_tick later) ≡ taken_of (deeds_since_tick past) → AcknowledgesTaken past → AcknowledgesTaken later
 tells_like past later t k s h = record {
   taken = λ x e. ap (is_among x) k ∙ h.taken x (ap (is_among x) (sym t) ∙ e);
   order = λ x y e f. h.order x y (ap (is_among x) (sym t) ∙ e) (ap (is_among y) (sym s) ∙ f);
 }
 
-tells_taken_step : (end : End) (past : Past) (move : Move) → IsRun end past → has_ended past ≡ false → May end past move → TellsTaken past → TellsTaken (after_move past move)
+tells_taken_step : (end : End) (past : Past) (move : Move) → IsRun end past → has_ended past ≡ false → May end past move → AcknowledgesTaken past → AcknowledgesTaken (after_move past move)
 tells_taken_step end past (Ticks sight) run alive may h = record { taken = h.taken; order = λ x y e f. absurd (false≢true f) }
 tells_taken_step end past (Makes ch m) run alive may h =
     tells_like past (after_making past ch m) (told_made past ch m) (taken_made past ch m) (since_made past ch m) h
 tells_taken_step end past (Defers m) run alive may h = record { taken = h.taken; order = h.order }
 tells_taken_step end past (Sends items) run alive may h = record {
-  taken = λ x e. elim (among_append (owed_by items) (told_of past) x e) [
+  taken = λ x e. elim (among_append (owed_by items) (acknowledged_of past) x e) [
     | inl q ↦ owed_taken end past items may.each x q
     | inr q ↦ h.taken x q
   ];
@@ -78,11 +78,11 @@ tells_taken_step end past (Takes n) run alive may h = record {
   ];
 }
 tells_taken_step end past (Hears entry) run alive may h =
-    tells_like past (with_told entry past) (told_ignored_all told_in (λ n e es ds. refl) entry past) (taken_told entry past) (since_told entry past) h
+    tells_like past (with_told entry past) (told_ignored_all acknowledged_in (λ n e es ds. refl) entry past) (taken_told entry past) (since_told entry past) h
 tells_taken_step end past (Hands d) run alive may h =
-    tells_like past (with_handed d past) (handed_ignored_all told_in (λ n es d ds. refl) d past) (taken_handed d past) (since_handed d past) h
+    tells_like past (with_handed d past) (handed_ignored_all acknowledged_in (λ n es d ds. refl) d past) (taken_handed d past) (since_handed d past) h
 tells_taken_step end past (Ends ending) run alive may h = record { taken = h.taken; order = h.order }
 
-pub tells_taken : (end : End) (past : Past) → IsRun end past → TellsTaken past
+pub tells_taken : (end : End) (past : Past) → IsRun end past → AcknowledgesTaken past
 tells_taken end past run =
-    always end TellsTaken (record { taken = λ x e. absurd (false≢true e); order = λ x y e f. absurd (false≢true e) }) (tells_taken_step end) past run
+    always end AcknowledgesTaken (record { taken = λ x e. absurd (false≢true e); order = λ x y e f. absurd (false≢true e) }) (tells_taken_step end) past run

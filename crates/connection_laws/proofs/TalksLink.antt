@@ -18,7 +18,7 @@ use Rattle.connection_model.specs.Bunches.{after_making}
 use Rattle.connection_model.specs.Pack.{rec_of, packet_carrying}
 use Rattle.connection_model.specs.Verdict.{with_told, with_handed, entry_result, after_entries, entry_of, entries_in, after_packet, after_reading, ack_cause}
 use Rattle.connection_laws.specs.Run.{Move, Ticks, Makes, Defers, Sends, Takes, Hears, Hands, Ends, after_move, May, IsRun}
-use Rattle.connection_laws.specs.Link.{Said, Holds, entry_said, all_said, said_by, MayCome, IsWhole, IsHonest, IsLink}
+use Rattle.connection_laws.specs.Link.{Said, SaysItem, entry_said, all_said, said_by, MayCome, IsWhole, IsHonest, IsLink}
 use Rattle.connection_laws.specs.Link.IsLink.{start as link_start, left_does, right_does}
 use Rattle.connection_laws.specs.Talk.{packet_at, IsPacketOf, MayHear, IsTalk}
 use Rattle.connection_laws.specs.Talk.IsTalk.{start, left_hears, right_hears}
@@ -27,17 +27,17 @@ use Rattle.connection_laws.proofs.Counts.{last_sent_sent}
 use Rattle.connection_laws.proofs.Searches.{among_here}
 use Rattle.connection_laws.proofs.Fates.{last_sent_made, last_sent_told, last_sent_handed, moved_handed, high_told}
 use Rattle.connection_laws.proofs.Spans.{some_parts}
-use Rattle.connection_laws.proofs.Said.{said_made, said_old, said_told, said_handed}
-use Rattle.connection_laws.proofs.Live.{IsQuiet, Goes, IsLiveRun, IsDone, alive_handed}
+use Rattle.connection_laws.proofs.PacketsSay.{said_made, said_old, said_told, said_handed}
+use Rattle.connection_laws.proofs.LiveRuns.{IsQuiet, Goes, IsLiveRun, IsDone, alive_handed}
 use Rattle.connection_laws.proofs.Calling.{call_runs}
 use Rattle.connection_laws.proofs.Hearing.{entry_runs, entry_names}
 use Rattle.connection_laws.proofs.Ticking.{tick_runs}
-use Rattle.connection_laws.proofs.Linked.{left_run, right_run}
-use Rattle.connection_laws.proofs.Between.{reads_there, reads_back}
+use Rattle.connection_laws.proofs.LinkedEnds.{left_run, right_run}
+use Rattle.connection_laws.proofs.LinkLaws.{reads_there, reads_back}
 
 -- ---- what a packet that was sent is
 
-recs_said : (items : List Item) → map entry_of (map rec_of items) ≡ map entry_said (map (λ (item : Item). Holds item) items)
+recs_said : (items : List Item) → map entry_of (map rec_of items) ≡ map entry_said (map (λ (item : Item). SaysItem item) items)
 recs_said [] = refl
 recs_said (item ∷ items) = ap (λ (es : List Entry). entry_of (rec_of item) ∷ es) (recs_said items)
 

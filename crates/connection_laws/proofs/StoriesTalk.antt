@@ -20,14 +20,14 @@ use Rattle.replication_model.specs.Story.{Player, Story, first_story, end_of, pa
 use Rattle.connection_laws.specs.Link.{IsLink}
 use Rattle.connection_laws.specs.Talk.{packet_at, IsPacketOf, MayHear, IsTalk}
 use Rattle.connection_laws.specs.Talk.IsTalk.{start, left_hears, right_hears}
-use Rattle.connection_laws.specs.Honest.{IsReadable, AllRead, IsTalking, TalksHonestly}
+use Rattle.connection_laws.specs.Honest.{IsReadable, AllRead, IsTalking}
 use Rattle.connection_laws.proofs.Deeds.{deeds_fit}
 use Rattle.connection_laws.proofs.Feeds.{feed_runs}
-use Rattle.connection_laws.proofs.Said.{Among, in_middle, all_at}
+use Rattle.connection_laws.proofs.PacketsSay.{IsIn, in_middle, all_at}
 use Rattle.connection_laws.specs.Delivered.{ReadsRight, ReceivesPrefixes}
-use Rattle.connection_laws.proofs.Between.{reads_there, reads_back, receives_there, receives_back}
-use Rattle.connection_laws.proofs.Talking.{talked}
-use Rattle.connection_laws.proofs.Sending.{BytesOf, bytes_of_sent}
+use Rattle.connection_laws.proofs.LinkLaws.{reads_there, reads_back, receives_there, receives_back}
+use Rattle.connection_laws.proofs.TalksLink.{talked}
+use Rattle.connection_laws.proofs.BytesSent.{BytesOf, bytes_of_sent}
 
 -- ---- one player
 
@@ -216,11 +216,12 @@ lines_talk table n lines r (line ∷ rest) some e f h =
     (subst (λ (told : Story × List Report). Inv table n told.0.players) (sym next) (line_talks table n (story_of table some).0 line one.0 reads h))
 
 -- each player of whom no datagram was forged has ends that talk
-pub talks_honestly : (table : Table) (lines : List Line) → TalksHonestly table lines
+pub talks_honestly : (table : Table) (lines : List Line) (p : Player) → HasJoined (story_of table lines).0 p → IsHonest lines p.number
+    → AllRead table lines p.number → IsTalking table p
 talks_honestly table lines p joined honest r =
     let all : Inv table p.number (story_of table lines).0.players = lines_talk table p.number lines r lines [] refl (not-true (list_any (forges p.number) lines) honest) tt in
     all_at (λ (q : Player). q.number ≡ p.number → IsTalking table q) p (story_of table lines).0.players all
-    (subst (Among p) (sym joined.2) (in_middle p joined.0 joined.1)) refl
+    (subst (IsIn p) (sym joined.2) (in_middle p joined.0 joined.1)) refl
 
 -- ---- what follows
 

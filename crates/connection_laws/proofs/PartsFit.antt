@@ -15,7 +15,7 @@ use Rattle.connection_laws.specs.Run.{IsRun}
 use Rattle.connection_laws.specs.Delivered.{Numbered, messages_on, AppliesPrefixes, JoinsFrom, NeverMisjoins}
 use Rattle.connection_laws.proofs.Spans.{some_parts}
 use Rattle.connection_laws.proofs.Prefixes.{bunches_of, cut_in_parts}
-use Rattle.connection_laws.proofs.Joins.{last_ends, middle_goes_on}
+use Rattle.connection_laws.proofs.PartsJoin.{last_ends, middle_goes_on}
 
 -- ---- a beginning of what joins joins
 

@@ -12,13 +12,13 @@ use Rattle.protocol_model.specs.Packet.{Bunch, Head}
 use Rattle.protocol_model.specs.Search.{is_among, greatest_of}
 use Rattle.connection_model.specs.Feed.{End, Past, Ticked, Made, Waits, Sent, Took, Ended, Entry, Told, Acked, Heard, Delivered, Item, Owed, Carries, Loose, tick_count}
 use Rattle.connection_model.specs.Fates.{taken_of, top_of, moved_of, high_of, last_sent, sent_in, top_when, head_of, named_by, named_numbers, number_above, history_of}
-use Rattle.connection_laws.specs.Run.{owed_by, told_of, MaySendAll, Ascends, Acknowledges}
+use Rattle.connection_laws.specs.Run.{owed_by, acknowledged_of, MaySendAll, Ascends, Acknowledges}
 use Rattle.connection_laws.specs.Deeds.{DeedsFit}
-use Rattle.connection_laws.specs.Link.{Said, Tells, Holds, entry_said, all_said, said_by, done_of}
+use Rattle.connection_laws.specs.Link.{Said, SaysHead, SaysItem, entry_said, all_said, said_by, done_of}
 use Rattle.connection_laws.proofs.Searches.{among_cons, among_here, among_append, among_right, among_most, greatest_of-cons, greatest_below}
-use Rattle.connection_laws.proofs.Said.{Among, in_middle}
-use Rattle.connection_laws.proofs.Told.{ack_in, acks_by, acks_said, acks_told, acks_ascend, acks_order, no_acks, ascends_middle, ascends_more, tops_rise, HeadFacts, head_facts, history_names}
-use Rattle.connection_laws.proofs.Near.{near_number}
+use Rattle.connection_laws.proofs.PacketsSay.{IsIn, in_middle}
+use Rattle.connection_laws.proofs.AcksTaken.{ack_in, acks_by, acks_said, acks_told, acks_ascend, acks_order, no_acks, ascends_middle, ascends_more, tops_rise, HeadFacts, head_facts, history_names}
+use Rattle.connection_laws.proofs.NearNumber.{near_number}
 
 -- what is still to be heard of the packet under way
 abbrev pub left_of : Version → (me other : Past) → List ℕ
@@ -27,7 +27,7 @@ left_of v past other = []
 
 -- what was told was taken by then; what is told next is above all that moved
 pub record FreshOne (me other : Past) : Type 0 where
-  pub known : (x : ℕ) → is_among x (moved_of me) ≡ true → is_among x (told_of other) ≡ true
+  pub known : (x : ℕ) → is_among x (moved_of me) ≡ true → is_among x (acknowledged_of other) ≡ true
   pub later : (k x : ℕ) → top_of me < k → is_among x (acks_by One other k) ≡ true → high_of me < x
   pub now : (x : ℕ) → is_among x (left_of One me other) ≡ true → high_of me < x
 
@@ -96,7 +96,7 @@ waits_same (Sent n t items ∷ past) other after h w = tt
 waits_same (Ended g ∷ past) other after h w = tt
 
 -- it sends nothing
-pub fresh_other : (v : Version) (me other after : Past) → ((k : ℕ) → said_by v after k ≡ said_by v other k) → told_of after ≡ told_of other → last_sent after ≡ last_sent other
+pub fresh_other : (v : Version) (me other after : Past) → ((k : ℕ) → said_by v after k ≡ said_by v other k) → acknowledged_of after ≡ acknowledged_of other → last_sent after ≡ last_sent other
     → ((k : ℕ) → top_when after k ≡ top_when other k) → Fresh v me other → Fresh v me after
 fresh_other One me other after s t l w f = record {
   known = λ x h. ap (is_among x) t ∙ f.known x h;
@@ -113,7 +113,7 @@ pub fresh_sends : (v : Version) (end : End) → end.version ≡ v → (me other 
     → ((k : ℕ) → is_among k (taken_of me) ≡ true → k ≤ last_sent other) → high_of me ≤ top_of other → Fresh v me other
     → Fresh v me (Sent (last_sent other + 1) (tick_count other) items ∷ other)
 fresh_sends One end one me other items may old high f = record {
-  known = λ x h. among_right (owed_by items) (told_of other) x (f.known x h);
+  known = λ x h. among_right (owed_by items) (acknowledged_of other) x (f.known x h);
   later = λ k x lt h. by k x (last_sent other + 1 == k) refl lt h;
   now = λ x h. f.now x (ap (is_among x) (sym (left_same One me other after (λ k q. same k (old k q)))) ∙ h);
 }
@@ -124,14 +124,14 @@ fresh_sends One end one me other items may old high f = record {
     same : (k : ℕ) → k ≤ last_sent other → said_by One (Sent (last_sent other + 1) (tick_count other) items ∷ other) k ≡ said_by One other k
     same k le = ap (λ (b : Bool). cond b (all_said One other items) (said_by One other k)) (ne_eqb (last_sent other + 1) k (λ q. absurd (omega arith)))
 
-    ascends : Ascends (greatest_of (told_of other)) (owed_by items)
-    ascends = subst (λ (w : Version). Acknowledges w (greatest_of (told_of other)) (owed_by items)) one may.told
+    ascends : Ascends (greatest_of (acknowledged_of other)) (owed_by items)
+    ascends = subst (λ (w : Version). Acknowledges w (greatest_of (acknowledged_of other)) (owed_by items)) one may.told
 
-    below : high_of me ≤ greatest_of (told_of other)
-    below = greatest_below (moved_of me) (greatest_of (told_of other)) (λ n e. among_most (told_of other) n (f.known n e))
+    below : high_of me ≤ greatest_of (acknowledged_of other)
+    below = greatest_below (moved_of me) (greatest_of (acknowledged_of other)) (λ n e. among_most (acknowledged_of other) n (f.known n e))
 
     by : (k x : ℕ) (b : Bool) → (last_sent other + 1 == k) ≡ b → top_of me < k → is_among x (filter_map ack_in (cond b (all_said One other items) (said_by One other k))) ≡ true → high_of me < x
-    by k x true e lt h = (let q : greatest_of (told_of other) < x = ascends_more (greatest_of (told_of other)) (owed_by items) x ascends (ap (is_among x) (sym (acks_said One other items)) ∙ h) in omega (arith, below))
+    by k x true e lt h = (let q : greatest_of (acknowledged_of other) < x = ascends_more (greatest_of (acknowledged_of other)) (owed_by items) x ascends (ap (is_among x) (sym (acks_said One other items)) ∙ h) in omega (arith, below))
     by k x false e lt h = f.later k x lt h
 fresh_sends Two end two me other items may old high f = record {
   later = λ k lt le. by k (last_sent other + 1 == k) refl lt le;
@@ -156,7 +156,7 @@ fresh_sends Two end two me other items may old high f = record {
 -- what moves was taken by the end that tells, and what it tells next is read right too
 -- each number that the entry names was sent
 abbrev pub NamesSent : Past → Entry → Type 0
-NamesSent past entry = (z : ℤ) → Among z (named_by entry (high_of past)) → (x : ℕ) → z ≡ pos x → x ≤ last_sent past
+NamesSent past entry = (z : ℤ) → IsIn z (named_by entry (high_of past)) → (x : ℕ) → z ≡ pos x → x ≤ last_sent past
 
 pub record Told1 (v : Version) (me after other : Past) : Type 0 where
   pub moved : (x : ℕ) → is_among x (moved_of after) ≡ true → (is_among x (moved_of me) ≡ true) ⊎ (is_among x (done_of other) ≡ true)
@@ -170,7 +170,7 @@ left_next all before s rest n e l = (
 )
 
 -- in version One no packet has a head, in version Two it comes first
-no_heads : (past : Past) (k : ℕ) (head : Head) → Among (Tells head) (said_by One past k) → ⊥
+no_heads : (past : Past) (k : ℕ) (head : Head) → IsIn (SaysHead head) (said_by One past k) → ⊥
 no_heads [] k head h = h
 no_heads (Ticked t s ∷ past) k head h = no_heads past k head h
 no_heads (Made c n m i ∷ past) k head h = no_heads past k head h
@@ -179,15 +179,15 @@ no_heads (Took n es ds ∷ past) k head h = no_heads past k head h
 no_heads (Ended g ∷ past) k head h = no_heads past k head h
 no_heads (Sent number t items ∷ past) k head h = by (number == k) h (λ q. no_heads past k head q)
   where
-    none : (items : List Item) → Among (Tells head) (map (λ (item : Item). Holds item) items) → ⊥
+    none : (items : List Item) → IsIn (SaysHead head) (map (λ (item : Item). SaysItem item) items) → ⊥
     none [] h = h
     none (item ∷ items) (inl e) = never e
       where
-        never : Holds item ≡ Tells head → ⊥
+        never : SaysItem item ≡ SaysHead head → ⊥
         never e = cc
     none (item ∷ items) (inr h) = none items h
 
-    by : (b : Bool) → Among (Tells head) (cond b (all_said One past items) (said_by One past k)) → (Among (Tells head) (said_by One past k) → ⊥) → ⊥
+    by : (b : Bool) → IsIn (SaysHead head) (cond b (all_said One past items) (said_by One past k)) → (IsIn (SaysHead head) (said_by One past k) → ⊥) → ⊥
     by true h ih = none items h
     by false h ih = ih h
 
@@ -196,7 +196,7 @@ abbrev rest_of : List Said → List Said
 rest_of [] = []
 rest_of (s ∷ said) = said
 
-head_first : (past : Past) (k : ℕ) (head : Head) → Among (Tells head) (rest_of (said_by Two past k)) → ⊥
+head_first : (past : Past) (k : ℕ) (head : Head) → IsIn (SaysHead head) (rest_of (said_by Two past k)) → ⊥
 head_first [] k head h = h
 head_first (Ticked t s ∷ past) k head h = head_first past k head h
 head_first (Made c n m i ∷ past) k head h = head_first past k head h
@@ -205,29 +205,29 @@ head_first (Took n es ds ∷ past) k head h = head_first past k head h
 head_first (Ended g ∷ past) k head h = head_first past k head h
 head_first (Sent number t items ∷ past) k head h = by (number == k) h (λ q. head_first past k head q)
   where
-    none : (items : List Item) → Among (Tells head) (map (λ (item : Item). Holds item) items) → ⊥
+    none : (items : List Item) → IsIn (SaysHead head) (map (λ (item : Item). SaysItem item) items) → ⊥
     none [] h = h
     none (item ∷ items) (inl e) = never e
       where
-        never : Holds item ≡ Tells head → ⊥
+        never : SaysItem item ≡ SaysHead head → ⊥
         never e = cc
     none (item ∷ items) (inr h) = none items h
 
-    by : (b : Bool) → Among (Tells head) (rest_of (cond b (all_said Two past items) (said_by Two past k))) → (Among (Tells head) (rest_of (said_by Two past k)) → ⊥) → ⊥
+    by : (b : Bool) → IsIn (SaysHead head) (rest_of (cond b (all_said Two past items) (said_by Two past k))) → (IsIn (SaysHead head) (rest_of (said_by Two past k)) → ⊥) → ⊥
     by true h ih = none items h
     by false h ih = ih h
 
-none_before : (past : Past) (k : ℕ) (head : Head) (before rest : List Said) → said_by Two past k ≡ before ++ Tells head ∷ rest → before ≡ []
+none_before : (past : Past) (k : ℕ) (head : Head) (before rest : List Said) → said_by Two past k ≡ before ++ SaysHead head ∷ rest → before ≡ []
 none_before past k head [] rest e = refl
-none_before past k head (s ∷ before) rest e = absurd (head_first past k head (subst (Among (Tells head)) (sym (ap rest_of e)) (in_middle (Tells head) before rest)))
+none_before past k head (s ∷ before) rest e = absurd (head_first past k head (subst (IsIn (SaysHead head)) (sym (ap rest_of e)) (in_middle (SaysHead head) before rest)))
 
 -- what a named number is
-above_named : (high : ℕ) (zs : List ℤ) (x : ℕ) → is_among x (filter_map (number_above high) zs) ≡ true → (z : ℤ) × Among z zs × (z ≡ pos x)
+above_named : (high : ℕ) (zs : List ℤ) (x : ℕ) → is_among x (filter_map (number_above high) zs) ≡ true → (z : ℤ) × IsIn z zs × (z ≡ pos x)
 above_named high [] x h = absurd (false≢true h)
 above_named high (negsuc z ∷ zs) x h = (let r = above_named high zs x h in (r.0, inr r.1, r.2))
 above_named high (pos z ∷ zs) x h = by (nat_lt high z) h (λ q. above_named high zs x q)
   where
-    by : (b : Bool) → is_among x (cons_option (then_some b z) (filter_map (number_above high) zs)) ≡ true → (is_among x (filter_map (number_above high) zs) ≡ true → (z : ℤ) × Among z zs × (z ≡ pos x)) → (y : ℤ) × Among y (pos z ∷ zs) × (y ≡ pos x)
+    by : (b : Bool) → is_among x (cons_option (then_some b z) (filter_map (number_above high) zs)) ≡ true → (is_among x (filter_map (number_above high) zs) ≡ true → (z : ℤ) × IsIn z zs × (z ≡ pos x)) → (y : ℤ) × IsIn y (pos z ∷ zs) × (y ≡ pos x)
     by true h ih = elim (among_cons z (filter_map (number_above high) zs) x h) [
       | inl e ↦ (pos z, inl refl, ap pos e)
       | inr q ↦ (let r = ih q in (r.0, inr r.1, r.2))
@@ -237,7 +237,7 @@ above_named high (pos z ∷ zs) x h = by (nat_lt high z) h (λ q. above_named hi
 -- ---- version One
 
 module _ (end : End) (one : end.version ≡ One) (other : Past) (fit : DeedsFit end other) (k : ℕ) (es : List Entry) (ds : List Delivered) (past : Past)
-    (known : (x : ℕ) → is_among x (told_of other) ≡ true → is_among x (done_of other) ≡ true)
+    (known : (x : ℕ) → is_among x (acknowledged_of other) ≡ true → is_among x (done_of other) ≡ true)
     (sent : (x : ℕ) → is_among x (done_of other) ≡ true → x ≤ last_sent past) (few : last_sent past ≤ high_of (Took k es ds ∷ past) + 4096)
     (f : FreshOne (Took k es ds ∷ past) other) where
   -- a bunch tells nothing
@@ -254,12 +254,12 @@ module _ (end : End) (one : end.version ≡ One) (other : Past) (fit : DeedsFit 
         };
       }
 
-  pub acked_one : (n : ℕ) (before rest : List Said) → said_by One other k ≡ before ++ Holds (Owed n) ∷ rest → length es ≡ length before
+  pub acked_one : (n : ℕ) (before rest : List Said) → said_by One other k ≡ before ++ SaysItem (Owed n) ∷ rest → length es ≡ length before
       → Told1 One (Took k es ds ∷ past) (Took k (Acked (n % 16384) ∷ es) ds ∷ past) other
   acked_one n before rest e l =
       let me : Past = Took k es ds ∷ past in
-      let left = left_next (said_by One other k) before (Holds (Owed n)) rest (length es) e l in
-      let acks : acks_by One other k ≡ filter_map ack_in before ++ n ∷ filter_map ack_in rest = ap (filter_map ack_in) e ∙ filter_map-append ack_in before (Holds (Owed n) ∷ rest) in
+      let left = left_next (said_by One other k) before (SaysItem (Owed n)) rest (length es) e l in
+      let acks : acks_by One other k ≡ filter_map ack_in before ++ n ∷ filter_map ack_in rest = ap (filter_map ack_in) e ∙ filter_map-append ack_in before (SaysItem (Owed n) ∷ rest) in
       let said : is_among n (acks_by One other k) ≡ true = ap (is_among n) acks ∙ among_right (filter_map ack_in before) (n ∷ filter_map ack_in rest) n (among_here n (filter_map ack_in rest) n refl) in
       let done : is_among n (done_of other) ≡ true = known n (acks_told One other n k said) in
       let above : high_of me < n = f.now n (ap (λ (s : List Said). is_among n (filter_map ack_in s)) left.0 ∙ among_here n (filter_map ack_in rest) n refl) in
@@ -276,7 +276,7 @@ module _ (end : End) (one : end.version ≡ One) (other : Past) (fit : DeedsFit 
         ];
         fresh = record {
           known = λ x h. elim (among_cons n (moved_of me) x (ap (is_among x) (sym moved) ∙ h)) [
-            | inl q ↦ subst (λ (y : ℕ). is_among y (told_of other) ≡ true) q (acks_told One other n k said)
+            | inl q ↦ subst (λ (y : ℕ). is_among y (acknowledged_of other) ≡ true) q (acks_told One other n k said)
             | inr q ↦ f.known x q
           ];
           later = λ j x lt h. (
@@ -290,11 +290,11 @@ module _ (end : End) (one : end.version ≡ One) (other : Past) (fit : DeedsFit 
         };
       }
 
-  acked_names : (n : ℕ) (before rest : List Said) → said_by One other k ≡ before ++ Holds (Owed n) ∷ rest → length es ≡ length before → NamesSent (Took k es ds ∷ past) (Acked (n % 16384))
+  acked_names : (n : ℕ) (before rest : List Said) → said_by One other k ≡ before ++ SaysItem (Owed n) ∷ rest → length es ≡ length before → NamesSent (Took k es ds ∷ past) (Acked (n % 16384))
   acked_names n before rest e l =
       let me : Past = Took k es ds ∷ past in
-      let left = left_next (said_by One other k) before (Holds (Owed n)) rest (length es) e l in
-      let acks : acks_by One other k ≡ filter_map ack_in before ++ n ∷ filter_map ack_in rest = ap (filter_map ack_in) e ∙ filter_map-append ack_in before (Holds (Owed n) ∷ rest) in
+      let left = left_next (said_by One other k) before (SaysItem (Owed n)) rest (length es) e l in
+      let acks : acks_by One other k ≡ filter_map ack_in before ++ n ∷ filter_map ack_in rest = ap (filter_map ack_in) e ∙ filter_map-append ack_in before (SaysItem (Owed n) ∷ rest) in
       let said : is_among n (acks_by One other k) ≡ true = ap (is_among n) acks ∙ among_right (filter_map ack_in before) (n ∷ filter_map ack_in rest) n (among_here n (filter_map ack_in rest) n refl) in
       let done : is_among n (done_of other) ≡ true = known n (acks_told One other n k said) in
       let above : high_of me < n = f.now n (ap (λ (s : List Said). is_among n (filter_map ack_in s)) left.0 ∙ among_here n (filter_map ack_in rest) n refl) in
@@ -302,7 +302,7 @@ module _ (end : End) (one : end.version ≡ One) (other : Past) (fit : DeedsFit 
       let read : near (n % 16384) (pos (high_of me)) 16384 ≡ pos n = near_number n (high_of me) (omega arith) (omega arith) in
       λ z h x q. by z h x q read low
     where
-      by : (z : ℤ) → Among z (near (n % 16384) (pos (high_of (Took k es ds ∷ past))) 16384 ∷ []) → (x : ℕ) → z ≡ pos x → near (n % 16384) (pos (high_of (Took k es ds ∷ past))) 16384 ≡ pos n → n ≤ last_sent past → x ≤ last_sent past
+      by : (z : ℤ) → IsIn z (near (n % 16384) (pos (high_of (Took k es ds ∷ past))) 16384 ∷ []) → (x : ℕ) → z ≡ pos x → near (n % 16384) (pos (high_of (Took k es ds ∷ past))) 16384 ≡ pos n → n ≤ last_sent past → x ≤ last_sent past
       by z (inl e) x q read low = (let same : pos x ≡ pos n = sym q ∙ sym e ∙ read in let is : x ≡ n = cc in omega (arith, is, low))
       by z (inr h) x q read low = absurd h
 
@@ -310,17 +310,17 @@ module _ (end : End) (one : end.version ≡ One) (other : Past) (fit : DeedsFit 
   no_names b z h x q = absurd h
 
   pub next_names_one : (s : Said) (before rest : List Said) → said_by One other k ≡ before ++ s ∷ rest → length es ≡ length before → NamesSent (Took k es ds ∷ past) (entry_said s)
-  next_names_one (Tells head) before rest e l = absurd (no_heads other k head (subst (Among (Tells head)) (sym e) (in_middle (Tells head) before rest)))
-  next_names_one (Holds (Owed n)) before rest e l = acked_names n before rest e l
-  next_names_one (Holds (Carries c n b)) before rest e l = no_names b
-  next_names_one (Holds (Loose m b)) before rest e l = no_names b
+  next_names_one (SaysHead head) before rest e l = absurd (no_heads other k head (subst (IsIn (SaysHead head)) (sym e) (in_middle (SaysHead head) before rest)))
+  next_names_one (SaysItem (Owed n)) before rest e l = acked_names n before rest e l
+  next_names_one (SaysItem (Carries c n b)) before rest e l = no_names b
+  next_names_one (SaysItem (Loose m b)) before rest e l = no_names b
 
   pub next_one : (s : Said) (before rest : List Said) → said_by One other k ≡ before ++ s ∷ rest → length es ≡ length before
       → Told1 One (Took k es ds ∷ past) (Took k (entry_said s ∷ es) ds ∷ past) other
-  next_one (Tells head) before rest e l = absurd (no_heads other k head (subst (Among (Tells head)) (sym e) (in_middle (Tells head) before rest)))
-  next_one (Holds (Owed n)) before rest e l = acked_one n before rest e l
-  next_one (Holds (Carries c n b)) before rest e l = heard_one b (Holds (Carries c n b)) before rest refl e l
-  next_one (Holds (Loose m b)) before rest e l = heard_one b (Holds (Loose m b)) before rest refl e l
+  next_one (SaysHead head) before rest e l = absurd (no_heads other k head (subst (IsIn (SaysHead head)) (sym e) (in_middle (SaysHead head) before rest)))
+  next_one (SaysItem (Owed n)) before rest e l = acked_one n before rest e l
+  next_one (SaysItem (Carries c n b)) before rest e l = heard_one b (SaysItem (Carries c n b)) before rest refl e l
+  next_one (SaysItem (Loose m b)) before rest e l = heard_one b (SaysItem (Loose m b)) before rest refl e l
 
 -- ---- version Two
 
@@ -330,7 +330,7 @@ module _ (end : End) (two : end.version ≡ Two) (other : Past) (fit : DeedsFit 
   pub heard_two : (b : Bunch) → Told1 Two (Took k es ds ∷ past) (Took k (Heard b ∷ es) ds ∷ past) other
   heard_two b = record { moved = λ x h. inl h; fresh = record { later = f.later; now = tt } }
 
-  pub told_two : (head : Head) → es ≡ [] → Among (Tells head) (said_by Two other k) → Told1 Two (Took k es ds ∷ past) (Took k (Told head ∷ es) ds ∷ past) other
+  pub told_two : (head : Head) → es ≡ [] → IsIn (SaysHead head) (said_by Two other k) → Told1 Two (Took k es ds ∷ past) (Took k (Told head ∷ es) ds ∷ past) other
   told_two head first q =
       let me : Past = Took k es ds ∷ past in
       let facts : HeadFacts other k head = head_facts end other fit k head q in
@@ -341,7 +341,7 @@ module _ (end : End) (two : end.version ≡ Two) (other : Past) (fit : DeedsFit 
       let named : named_by (Told head) (high_of me) ≡ named_numbers (pos (top_of facts.before)) (history_of (head_of Two facts.before)) =
       ap (λ (z : ℤ). named_numbers z (history_of head)) read ∙ ap (λ (h : Head). named_numbers (pos (top_of facts.before)) (history_of h)) facts.is in
       let each : (x : ℕ) → is_among x (moved_of (Took k (Told head ∷ es) ds ∷ past)) ≡ true → (is_among x (moved_of me) ≡ true) ⊎ (is_among x (taken_of facts.before) ≡ true) =
-      λ x h. which x (taken_of facts.before) (λ z r e. history_names facts.before facts.positive z (subst (Among z) named r) x e)
+      λ x h. which x (taken_of facts.before) (λ z r e. history_names facts.before facts.positive z (subst (IsIn z) named r) x e)
       (among_append (filter_map (number_above (high_of me)) (named_by (Told head) (high_of me))) (moved_of me) x h) in
       let high : high_of (Took k (Told head ∷ es) ds ∷ past) ≤ top_when other k =
       greatest_below (moved_of (Took k (Told head ∷ es) ds ∷ past)) (top_when other k)
@@ -361,7 +361,7 @@ module _ (end : End) (two : end.version ≡ Two) (other : Past) (fit : DeedsFit 
       by_first [] e w = w
       by_first (x ∷ xs) e w = absurd (let never : x ∷ xs ≡ [] = e in cc)
 
-      which : (x : ℕ) (ts : List ℕ) → ((z : ℤ) → Among z (named_by (Told head) (high_of (Took k es ds ∷ past))) → z ≡ pos x → is_among x ts ≡ true)
+      which : (x : ℕ) (ts : List ℕ) → ((z : ℤ) → IsIn z (named_by (Told head) (high_of (Took k es ds ∷ past))) → z ≡ pos x → is_among x ts ≡ true)
           → ((is_among x (filter_map (number_above (high_of (Took k es ds ∷ past))) (named_by (Told head) (high_of (Took k es ds ∷ past)))) ≡ true) ⊎ (is_among x (moved_of (Took k es ds ∷ past)) ≡ true))
           → (is_among x (moved_of (Took k es ds ∷ past)) ≡ true) ⊎ (is_among x ts ≡ true)
       which x ts h (inr q) = inl q
@@ -371,7 +371,7 @@ module _ (end : End) (two : end.version ≡ Two) (other : Past) (fit : DeedsFit 
       at_most x top ts hi lo (inl q) = (let le : x ≤ high_of (Took k es ds ∷ past) = among_most (moved_of (Took k es ds ∷ past)) x q in omega arith)
       at_most x top ts hi lo (inr q) = (let le : x ≤ greatest_of ts = among_most ts x q in omega arith)
 
-  told_names : (head : Head) → es ≡ [] → Among (Tells head) (said_by Two other k) → NamesSent (Took k es ds ∷ past) (Told head)
+  told_names : (head : Head) → es ≡ [] → IsIn (SaysHead head) (said_by Two other k) → NamesSent (Took k es ds ∷ past) (Told head)
   told_names head first q =
       let me : Past = Took k es ds ∷ past in
       let facts : HeadFacts other k head = head_facts end other fit k head q in
@@ -381,7 +381,7 @@ module _ (end : End) (two : end.version ≡ Two) (other : Past) (fit : DeedsFit 
       ap (λ (h : Head). near h.top (pos (high_of me)) 16384) facts.is ∙ near_number (top_of facts.before) (high_of me) (omega (arith, waits, facts.top)) (omega (arith, few, top_low)) in
       let named : named_by (Told head) (high_of me) ≡ named_numbers (pos (top_of facts.before)) (history_of (head_of Two facts.before)) =
       ap (λ (z : ℤ). named_numbers z (history_of head)) read ∙ ap (λ (h : Head). named_numbers (pos (top_of facts.before)) (history_of h)) facts.is in
-      λ z h x r. sent x (facts.taken x (history_names facts.before facts.positive z (subst (Among z) named h) x r))
+      λ z h x r. sent x (facts.taken x (history_names facts.before facts.positive z (subst (IsIn z) named h) x r))
     where
       by_first : (xs : List Entry) → xs ≡ [] → HeadWaits (Took k xs ds ∷ past) other → high_of (Took k xs ds ∷ past) ≤ top_when other k
       by_first [] e w = w
@@ -391,22 +391,22 @@ module _ (end : End) (two : end.version ≡ Two) (other : Past) (fit : DeedsFit 
   nothing_named b z h x q = absurd h
 
   pub next_names_two : (s : Said) (before rest : List Said) → said_by Two other k ≡ before ++ s ∷ rest → es ≡ reverse (map entry_said before) → NamesSent (Took k es ds ∷ past) (entry_said s)
-  next_names_two (Tells head) before rest e l =
-      told_names head (l ∙ ap (λ (b : List Said). reverse (map entry_said b)) (none_before other k head before rest e)) (subst (Among (Tells head)) (sym e) (in_middle (Tells head) before rest))
-  next_names_two (Holds (Owed n)) before rest e l =
+  next_names_two (SaysHead head) before rest e l =
+      told_names head (l ∙ ap (λ (b : List Said). reverse (map entry_said b)) (none_before other k head before rest e)) (subst (IsIn (SaysHead head)) (sym e) (in_middle (SaysHead head) before rest))
+  next_names_two (SaysItem (Owed n)) before rest e l =
       absurd (false≢true (sym (ap (is_among n) (no_acks end two Two other fit k))
-      ∙ ap (λ (said : List Said). is_among n (filter_map ack_in said)) e ∙ ap (is_among n) (filter_map-append ack_in before (Holds (Owed n) ∷ rest))
+      ∙ ap (λ (said : List Said). is_among n (filter_map ack_in said)) e ∙ ap (is_among n) (filter_map-append ack_in before (SaysItem (Owed n) ∷ rest))
       ∙ among_right (filter_map ack_in before) (n ∷ filter_map ack_in rest) n (among_here n (filter_map ack_in rest) n refl)))
-  next_names_two (Holds (Carries c n b)) before rest e l = nothing_named b
-  next_names_two (Holds (Loose m b)) before rest e l = nothing_named b
+  next_names_two (SaysItem (Carries c n b)) before rest e l = nothing_named b
+  next_names_two (SaysItem (Loose m b)) before rest e l = nothing_named b
 
   pub next_two : (s : Said) (before rest : List Said) → said_by Two other k ≡ before ++ s ∷ rest → es ≡ reverse (map entry_said before)
       → Told1 Two (Took k es ds ∷ past) (Took k (entry_said s ∷ es) ds ∷ past) other
-  next_two (Tells head) before rest e l =
-      told_two head (l ∙ ap (λ (b : List Said). reverse (map entry_said b)) (none_before other k head before rest e)) (subst (Among (Tells head)) (sym e) (in_middle (Tells head) before rest))
-  next_two (Holds (Owed n)) before rest e l =
+  next_two (SaysHead head) before rest e l =
+      told_two head (l ∙ ap (λ (b : List Said). reverse (map entry_said b)) (none_before other k head before rest e)) (subst (IsIn (SaysHead head)) (sym e) (in_middle (SaysHead head) before rest))
+  next_two (SaysItem (Owed n)) before rest e l =
       absurd (false≢true (sym (ap (is_among n) (no_acks end two Two other fit k))
-      ∙ ap (λ (said : List Said). is_among n (filter_map ack_in said)) e ∙ ap (is_among n) (filter_map-append ack_in before (Holds (Owed n) ∷ rest))
+      ∙ ap (λ (said : List Said). is_among n (filter_map ack_in said)) e ∙ ap (is_among n) (filter_map-append ack_in before (SaysItem (Owed n) ∷ rest))
       ∙ among_right (filter_map ack_in before) (n ∷ filter_map ack_in rest) n (among_here n (filter_map ack_in rest) n refl)))
-  next_two (Holds (Carries c n b)) before rest e l = heard_two b
-  next_two (Holds (Loose m b)) before rest e l = heard_two b
+  next_two (SaysItem (Carries c n b)) before rest e l = heard_two b
+  next_two (SaysItem (Loose m b)) before rest e l = heard_two b

@@ -4,12 +4,12 @@ use Rattle.connection_model.specs.Feed.{End, Past}
 use Rattle.connection_model.specs.Windows.{received_on}
 use Rattle.connection_laws.specs.Link.{IsLink}
 use Rattle.connection_laws.specs.Delivered.{ReadsRight, AppliesPrefixes, ReceivesPrefixes, NeverOverruns, NeverMisjoins}
-use Rattle.connection_laws.proofs.Core.{good}
-use Rattle.connection_laws.proofs.Linked.{Both, turned, both, left_run, right_run, reads_right}
+use Rattle.connection_laws.proofs.Transfer.{good}
+use Rattle.connection_laws.proofs.LinkedEnds.{Both, turned, both, left_run, right_run, reads_right}
 use Rattle.connection_laws.proofs.Prefixes.{applied_prefix}
-use Rattle.connection_laws.proofs.Joins.{receives}
+use Rattle.connection_laws.proofs.PartsJoin.{receives}
 use Rattle.connection_laws.proofs.Overrun.{no_overrun}
-use Rattle.connection_laws.proofs.Fits.{no_misjoin}
+use Rattle.connection_laws.proofs.PartsFit.{no_misjoin}
 
 module _ (left right : End) (l r : Past) (same : left.version ≡ right.version) (link : IsLink left right l r) where
   there : Both left.version l r
