@@ -100,6 +100,10 @@ abbrev pub JoinsFrom : (kept : List Bunch) → List Bunch → Type 0
 JoinsFrom kept [] = Unit {0}
 JoinsFrom kept (b ∷ run) = (part_fault kept b b.part ≡ None) × MatchBool (ends_payload b) (JoinsFrom [] run) (JoinsFrom (b ∷ kept) run)
 
+-- so on every index, over the run that was applied there
+abbrev pub AllJoin : Past → Type 0
+AllJoin past = (ch : ℕ) → JoinsFrom [] (applied_of (received_on past ch))
+
 -- where each message made on an index has at most as many bits as a payload may have, joining refuses no
 -- part that is applied
 abbrev pub NeverMisjoins : (from to : Past) → Type 0

@@ -24,48 +24,48 @@ use Rattle.connection_model.specs.State.{Mark, is_opened, is_mark, state_of, ind
 use Rattle.connection_model.specs.Windows.{Received, received_on, applied_of, kept_of, wholes_from, wholes_of}
 use Rattle.connection_model.specs.Verdict.{is_misplaced, lacks_copy, delivery_of, bunches_result, bunch_heard, entry_result, ack_cause}
 use Rattle.connection_laws.specs.Run.{Hears, Hands, HasLoosePlace, MaySend}
-use Rattle.connection_laws.specs.Link.{Said, Tells, Holds, entry_said, said_by, IsNext, IsLink}
+use Rattle.connection_laws.specs.Link.{Said, SaysHead, SaysItem, entry_said, said_by, IsNext, IsLink}
 use Rattle.connection_laws.specs.Link.IsLink.{right_does}
 use Rattle.connection_laws.specs.Deeds.{EachDeed}
 use Rattle.connection_laws.specs.Delivered.{Numbered, messages_on, payload_of}
-use Rattle.connection_laws.proofs.Between.{applies_there}
+use Rattle.connection_laws.proofs.LinkLaws.{applies_there}
 use Rattle.connection_laws.proofs.Deeds.{deeds_fit, each_at}
-use Rattle.connection_laws.proofs.Hands.{entry_loose}
+use Rattle.connection_laws.proofs.HandingOn.{entry_loose}
 use Rattle.connection_laws.proofs.Items.{all_weaker}
-use Rattle.connection_laws.proofs.Linked.{right_names, left_run}
-use Rattle.connection_laws.proofs.Said.{Among, in_middle, all_at, carried_facts}
+use Rattle.connection_laws.proofs.LinkedEnds.{right_names, left_run}
+use Rattle.connection_laws.proofs.PacketsSay.{IsIn, in_middle, all_at, carried_facts}
 use Rattle.payload_laws.specs.Passing.{is_reliable, CallPasses, Passes}
 use Rattle.payload_laws.proofs.First.{made_back, loose_back}
 use Rattle.payload_laws.proofs.OthersPassing.{call_passes}
 use Rattle.payload_laws.proofs.Updates.{update_most}
 use Rattle.headline_laws.specs.Agree.{user_at}
-use Rattle.headline_laws.specs.Fits.{Fits}
+use Rattle.headline_laws.specs.Fits.{PastFits}
 use Rattle.headline_laws.specs.Follows.{HandsOnWhole, IsDone, Follows}
 use Rattle.headline_laws.specs.Marks.{marks_of, without_newest}
 use Rattle.headline_laws.specs.Tells.{MessageTells, ItemTells, DeedTells}
 use Rattle.headline_laws.specs.Whole.{IsReceived}
-use Rattle.headline_laws.proofs.Agree.{holder_is_user}
-use Rattle.headline_laws.proofs.Bunches.{Steps, CarriedHeard}
-use Rattle.headline_laws.proofs.Carried.{dir_there, hears_carried, whole_after, whole_else}
-use Rattle.headline_laws.proofs.Clear.{whole_there}
+use Rattle.headline_laws.proofs.CopiesGoOn.{holder_is_user}
+use Rattle.headline_laws.proofs.BunchHandsOn.{Steps, CarriedHeard}
+use Rattle.headline_laws.proofs.CarriedBunches.{dir_there, hears_carried, whole_after, whole_else}
+use Rattle.headline_laws.proofs.ReceivedFirst.{whole_there}
 use Rattle.headline_laws.proofs.Following.{follows_alike, alike_done}
-use Rattle.headline_laws.proofs.Grows.{SaidAt, said_at}
+use Rattle.headline_laws.proofs.PastGrows.{SaidAt, said_at}
 use Rattle.headline_laws.proofs.HandedOn.{Handed1, handed_one, loose_follows, loose_done}
-use Rattle.headline_laws.proofs.Loose.{loose_handed, fits_back, waited_short}
-use Rattle.headline_laws.proofs.Passes.{ServerFacts, Ready, can_hand, spawned_actor}
+use Rattle.headline_laws.proofs.LooseMessages.{loose_handed, fits_back, waited_short}
+use Rattle.headline_laws.proofs.NextPasses.{ServerFacts, Ready, can_hand, spawned_actor}
 use Rattle.headline_laws.proofs.Placed.{placed_at_client, loose_above}
 use Rattle.headline_laws.proofs.Reopened.{closes_received}
-use Rattle.headline_laws.proofs.Says.{known_limits}
-use Rattle.headline_laws.proofs.Users.{received_low, loose_user}
+use Rattle.headline_laws.proofs.ServerSays.{known_limits}
+use Rattle.headline_laws.proofs.LooseUsers.{received_low, loose_user}
 use Rattle.payload_laws.specs.Limits.{HasLimits}
 use Rattle.connection_model.specs.Carry.{due_pairs}
 
 -- the message of a thing said, if it is unreliable
 abbrev pub loose_said : Said → Option Message
-loose_said (Tells head) = None
-loose_said (Holds (Owed number)) = None
-loose_said (Holds (Carries channel number bunch)) = None
-loose_said (Holds (Loose message bunch)) = Some message
+loose_said (SaysHead head) = None
+loose_said (SaysItem (Owed number)) = None
+loose_said (SaysItem (Carries channel number bunch)) = None
+loose_said (SaysItem (Loose message bunch)) = Some message
 
 -- the messages of the unreliable payloads among these
 abbrev pub loosely : List Delivered → List Message
@@ -92,7 +92,7 @@ ready_of entries classes left right l r same f = record {
 }
 
 module _ (entries : List Entry) (is : IsTable entries) (classes : ℕ → Class) (left right : End) (same : left.version ≡ right.version) (client : right.side ≡ AtClient) (table : right.table ≡ table_of entries)
-    (l : Past) (facts : ServerFacts entries classes left l) (fits : Fits left l) (few : (ch : ℕ) → AllByRecursion (λ (made : Numbered). parts_of made.1 ≤ 10) (messages_on l ch))
+    (l : Past) (facts : ServerFacts entries classes left l) (fits : PastFits left l) (few : (ch : ℕ) → AllByRecursion (λ (made : Numbered). parts_of made.1 ≤ 10) (messages_on l ch))
     (k : ℕ) (past : Past) (alive : has_ended past ≡ false) (fresh : top_of past < k) where
   abbrev Keeps : List Feed.Entry → List Delivered → Type 0
   Keeps es ds = Follower entries classes left right l (Took k es ds ∷ past)
@@ -108,8 +108,8 @@ module _ (entries : List Entry) (is : IsTable entries) (classes : ℕ → Class)
     next : (ds : List Delivered) → IsNext right.version l (Took k es ds ∷ past) (entry_said s)
     next ds = subst (λ v. IsNext v l (Took k es ds ∷ past) (entry_said s)) same (before, s, after, said, told, refl)
 
-    among : Among s (said_by left.version l k)
-    among = subst (Among s) (sym said) (in_middle s before after)
+    among : IsIn s (said_by left.version l k)
+    among = subst (IsIn s) (sym said) (in_middle s before after)
 
     names : (ds : List Delivered) → IsLink left right l (Took k es ds ∷ past) → ack_cause (Took k es ds ∷ past) (entry_said s) ≡ None
     names ds link = right_names left right l k es ds past (entry_said s) same link (before, s, after, said, told, refl)
@@ -164,22 +164,22 @@ module _ (entries : List Entry) (is : IsTable entries) (classes : ℕ → Class)
         more = h.here;
       }
 
-  carries_one : (es : List Feed.Entry) (ds : List Delivered) (ch n : ℕ) (b : Bunch) (before after : List Said) → said_by left.version l k ≡ before ++ Holds (Carries ch n b) ∷ after → es ≡ reverse (map entry_said before) → Keeps es ds → HeardOne es ds (Holds (Carries ch n b))
+  carries_one : (es : List Feed.Entry) (ds : List Delivered) (ch n : ℕ) (b : Bunch) (before after : List Said) → said_by left.version l k ≡ before ++ SaysItem (Carries ch n b) ∷ after → es ≡ reverse (map entry_said before) → Keeps es ds → HeardOne es ds (SaysItem (Carries ch n b))
   carries_one es ds ch n b before after said told f =
-      let s : Said = Holds (Carries ch n b) in
-      let here : Among (Holds (Carries ch n b)) (said_by left.version l k) = among es (Holds (Carries ch n b)) before after said told in
+      let s : Said = SaysItem (Carries ch n b) in
+      let here : IsIn (SaysItem (Carries ch n b)) (said_by left.version l k) = among es (SaysItem (Carries ch n b)) before after said told in
       let base : ℕ → List Numbered = λ c. (f.follows.hands c).done in
       let start : Mid es ch (λ c. (f.follows.hands c).done) ds ds = record { link = f.link; follows = f.follows; ready = ready_of entries classes left right l (Took k es ds ∷ past) same f; others = λ c ne. refl; loose = refl } in
       let placed : is_misplaced right.side b ≡ false = ap (λ (x : Side). is_misplaced x b) client ∙ (placed_at_client left l facts.side facts.run).made ch n b (carried_facts left left.version l (deeds_fit left l facts.run) ch n k b here).made in
       let dir = dir_there left right l (Took k es ds ∷ past) same f.link in
-      let after_told = applies_there left right l (Took k (Heard b ∷ es) ds ∷ past) same (hears es (Holds (Carries ch n b)) before after said told ds f.link) in
+      let after_told = applies_there left right l (Took k (Heard b ∷ es) ds ∷ past) same (hears es (SaysItem (Carries ch n b)) before after said told ds f.link) in
       let c : CarriedHeard right k es past ch (messages_on l ch) (few ch) (Mid es ch (λ c. (f.follows.hands c).done) ds) (mid_done es ch (λ c. (f.follows.hands c).done) ds) (mid_steps es ch (λ c. (f.follows.hands c).done) ds) ds b =
       hears_carried left.version left right l k es past fresh ch n b here (few ch) placed (Mid es ch (λ c. (f.follows.hands c).done) ds) (mid_done es ch (λ c. (f.follows.hands c).done) ds) (mid_steps es ch (λ c. (f.follows.hands c).done) ds) ds start dir after_told (f.whole ch)
       ((f.follows.hands ch).later, (f.follows.hands ch).split) in
       record {
         news = c.news;
         ok = c.ok;
-        keeps = told_keeps es (Holds (Carries ch n b)) before after said told c.news c.state.link c.state.follows (λ x. elim (cases_eq ch x) [
+        keeps = told_keeps es (SaysItem (Carries ch n b)) before after said told c.news c.state.link c.state.follows (λ x. elim (cases_eq ch x) [
           | inl e ↦ subst (λ (y : ℕ). wholes_of (Took k (Heard b ∷ es) c.news ∷ past) y ≡ map (payload_of y) (c.state.follows.hands y).done) e
               (whole_after left.version left right l k es past fresh ch n b here (few ch) placed (Mid es ch (λ c. (f.follows.hands c).done) ds) (mid_done es ch (λ c. (f.follows.hands c).done) ds) (mid_steps es ch (λ c. (f.follows.hands c).done) ds) ds start dir after_told (f.whole ch)
               ((f.follows.hands ch).later, (f.follows.hands ch).split) c.news c.state c.whole)
@@ -200,14 +200,14 @@ module _ (entries : List Entry) (is : IsTable entries) (classes : ℕ → Class)
     plain : is_mark m ≡ false
     above : (ch == 0) ≡ false
 
-  loose_one : (es : List Feed.Entry) (ds : List Delivered) (m : Message) (b : Bunch) (before after : List Said) → said_by left.version l k ≡ before ++ Holds (Loose m b) ∷ after → es ≡ reverse (map entry_said before) → Keeps es ds → HeardOne es ds (Holds (Loose m b))
+  loose_one : (es : List Feed.Entry) (ds : List Delivered) (m : Message) (b : Bunch) (before after : List Said) → said_by left.version l k ≡ before ++ SaysItem (Loose m b) ∷ after → es ≡ reverse (map entry_said before) → Keeps es ds → HeardOne es ds (SaysItem (Loose m b))
   loose_one es ds m b before after said told f = by m refl p.2 tells
     where
       now : Past
       now = Took k es ds ∷ past
 
       at : SaidAt left l k (Loose m b)
-      at = said_at left.version left l facts.run k (Loose m b) (among es (Holds (Loose m b)) before after said told)
+      at = said_at left.version left l facts.run k (Loose m b) (among es (SaysItem (Loose m b)) before after said told)
 
       p : (ch : ℕ) × (b ≡ loose_bunch ch m) × HasLoosePlace left at.before ch m
       p = all_at (MaySend left at.before) (Loose m b) at.items at.at.may.each at.among
@@ -215,8 +215,8 @@ module _ (entries : List Entry) (is : IsTable entries) (classes : ℕ → Class)
       tells : MessageTells entries classes AtServer m
       tells = all_at (ItemTells entries classes AtServer) (Loose m b) at.items (each_at (DeedTells entries classes AtServer) at.later (Sent k at.t at.items) at.before (subst (EachDeed (DeedTells entries classes AtServer)) at.is facts.tells)) at.among
 
-      older : Fits left at.before
-      older = (fits_back left at.later (Sent k at.t at.items ∷ at.before) (subst (Fits left) at.is fits)).1
+      older : PastFits left at.before
+      older = (fits_back left at.later (Sent k at.t at.items ∷ at.before) (subst (PastFits left) at.is fits)).1
 
       user : (a : ℕ) → is_opened (state_of at.before a) ≡ true → index_of at.before a ≡ Some p.0 → user_at (Took k es ds ∷ past) p.0 ≡ Some a
       user a o i = loose_user left right l k es ds past facts.side same f.link fresh f.follows.hands f.whole (Loose m b) at a p.0 o i
@@ -237,7 +237,7 @@ module _ (entries : List Entry) (is : IsTable entries) (classes : ℕ → Class)
       above : HasLoosePlace left at.before p.0 m → (p.0 == 0) ≡ false
       above h = loose_above left at.before p.0 m facts.side at.at.run h
 
-      done : LooseFacts es ds p.0 m → HeardOne es ds (Holds (Loose m b))
+      done : LooseFacts es ds p.0 m → HeardOne es ds (SaysItem (Loose m b))
       done g =
           let ch : ℕ = p.0 in
           let d : Delivered = delivery_of right (Took k es ds ∷ past) (loose_bunch p.0 m) m in
@@ -251,7 +251,7 @@ module _ (entries : List Entry) (is : IsTable entries) (classes : ℕ → Class)
           record {
             news = d ∷ ds;
             ok = ap (bunch_heard right (Took k es ds ∷ past)) p.1 ∙ heard;
-            keeps = told_keeps es (Holds (Loose m b)) before after said told (d ∷ ds) link (loose_follows (segments_of entries) classes l (Took k es ds ∷ past) (Took k es (d ∷ ds) ∷ past) f.follows d refl refl g.plain)
+            keeps = told_keeps es (SaysItem (Loose m b)) before after said told (d ∷ ds) link (loose_follows (segments_of entries) classes l (Took k es ds ∷ past) (Took k es (d ∷ ds) ∷ past) f.follows d refl refl g.plain)
                 (λ c. ap (λ (got : List Received). wholes_from [] (applied_of got)) (entry_loose (received_on (Took k es ds ∷ past) c) c b (ap (λ (x : Bunch). x.reliable) p.1)) ∙ f.whole c
                 ∙ ap (map (payload_of c)) (sym (loose_done (segments_of entries) classes l (Took k es ds ∷ past) (Took k es (d ∷ ds) ∷ past) f.follows d refl refl g.plain c)));
             loose = refl;
@@ -262,7 +262,7 @@ module _ (entries : List Entry) (is : IsTable entries) (classes : ℕ → Class)
           lacks_by false false e = refl
           lacks_by false true e = absurd (false≢true (sym e))
 
-      by : (w : Message) → m ≡ w → HasLoosePlace left at.before p.0 m → MessageTells entries classes AtServer m → HeardOne es ds (Holds (Loose m b))
+      by : (w : Message) → m ≡ w → HasLoosePlace left at.before p.0 m → MessageTells entries classes AtServer m → HeardOne es ds (SaysItem (Loose m b))
       by (Opens exports a c values) e h t = absurd (subst (HasLoosePlace left at.before p.0) e h)
       by (Closes a sleeps) e h t = absurd (subst (HasLoosePlace left at.before p.0) e h)
       by (Gone a) e h t = absurd (subst (HasLoosePlace left at.before p.0) e h)
@@ -313,7 +313,7 @@ module _ (entries : List Entry) (is : IsTable entries) (classes : ℕ → Class)
   -- ---- whatever it says
 
   pub hears_one : (es : List Feed.Entry) (ds : List Delivered) (s : Said) (before after : List Said) → said_by left.version l k ≡ before ++ s ∷ after → es ≡ reverse (map entry_said before) → Keeps es ds → HeardOne es ds s
-  hears_one es ds (Tells head) before after said told f = told_one es ds (Tells head) before after said told f refl refl (λ c. refl)
-  hears_one es ds (Holds (Owed n)) before after said told f = told_one es ds (Holds (Owed n)) before after said told f refl refl (λ c. refl)
-  hears_one es ds (Holds (Carries ch n b)) before after said told f = carries_one es ds ch n b before after said told f
-  hears_one es ds (Holds (Loose m b)) before after said told f = loose_one es ds m b before after said told f
+  hears_one es ds (SaysHead head) before after said told f = told_one es ds (SaysHead head) before after said told f refl refl (λ c. refl)
+  hears_one es ds (SaysItem (Owed n)) before after said told f = told_one es ds (SaysItem (Owed n)) before after said told f refl refl (λ c. refl)
+  hears_one es ds (SaysItem (Carries ch n b)) before after said told f = carries_one es ds ch n b before after said told f
+  hears_one es ds (SaysItem (Loose m b)) before after said told f = loose_one es ds m b before after said told f

@@ -25,14 +25,14 @@ use Rattle.connection_laws.proofs.Items.{all_append, all_reverse}
 use Rattle.connection_laws.proofs.Moves.{told_keeps, handed_keeps}
 use Rattle.packet_codec.proofs.PacketSpelled.{content_spelled}
 use Rattle.packet_codec.proofs.ReadBack.{rules_of}
-use Rattle.headline_laws.specs.Fits.{EntryFits, PlaceFits, Fits}
+use Rattle.headline_laws.specs.Fits.{EntryFits, PlaceFits, PastFits}
 
 abbrev pub Low : Version → Bunch → Type 0
 Low v b = b.channel < channel_limit v
 
 -- ---- what was received
 
-entries_fit : (end : End) (past : Past) → Fits end past → AllByRecursion (EntryFits end.version) (entries_of past)
+entries_fit : (end : End) (past : Past) → PastFits end past → AllByRecursion (EntryFits end.version) (entries_of past)
 entries_fit end [] f = tt
 entries_fit end (Ticked t s ∷ past) f = entries_fit end past f.1
 entries_fit end (Made c n m i ∷ past) f = entries_fit end past f.1
@@ -112,20 +112,20 @@ result_by end past kept b d false None true p q r k m h =
 result_low : (end : End) (past : Past) (kept : List Bunch) (b : Bunch) (d : Delivered) → AllByRecursion (Low end.version) kept → Low end.version b → bunch_result end past kept b ≡ Ok (Some d) → PlaceFits end.version d
 result_low end past kept b d k l h = result_by end past kept b d (lacks_copy end.side past kept b) (part_fault kept b b.part) (ends_payload b) refl refl refl k l h
 
-handed_fits : (end : End) (d : Delivered) (past : Past) → PlaceFits end.version d → Fits end past → Fits end (with_handed d past)
-handed_fits end d past p f = handed_keeps (Fits end) d past f (λ n es ds before h. ((h.0.0, (p, h.0.1)), h.1))
+handed_fits : (end : End) (d : Delivered) (past : Past) → PlaceFits end.version d → PastFits end past → PastFits end (with_handed d past)
+handed_fits end d past p f = handed_keeps (PastFits end) d past f (λ n es ds before h. ((h.0.0, (p, h.0.1)), h.1))
 
-told_fits : (end : End) (entry : Entry) (past : Past) → EntryFits end.version entry → Fits end past → Fits end (with_told entry past)
-told_fits end entry past p f = told_keeps (Fits end) entry past f (λ n es ds before h. (((p, h.0.0), h.0.1), h.1))
+told_fits : (end : End) (entry : Entry) (past : Past) → EntryFits end.version entry → PastFits end past → PastFits end (with_told entry past)
+told_fits end entry past p f = told_keeps (PastFits end) entry past f (λ n es ds before h. (((p, h.0.0), h.0.1), h.1))
 
-bunches_fit : (end : End) (past : Past) (kept bunches : List Bunch) → AllByRecursion (Low end.version) kept → AllByRecursion (Low end.version) bunches → Fits end past → Fits end (bunches_result end past kept bunches).past
+bunches_fit : (end : End) (past : Past) (kept bunches : List Bunch) → AllByRecursion (Low end.version) kept → AllByRecursion (Low end.version) bunches → PastFits end past → PastFits end (bunches_result end past kept bunches).past
 bunches_fit end past kept [] k l f = f
 bunches_fit end past kept (b ∷ bunches) k l f =
     by (bunch_result end past kept b) refl (bunches_fit end past (b ∷ kept) bunches (l.0, k) l.1 f) (λ d p. bunches_fit end (with_handed d past) [] bunches tt l.1 (handed_fits end d past p f))
   where
-    by : (r : Result (Option Delivered) Cause) → bunch_result end past kept b ≡ r → Fits end (bunches_result end past (b ∷ kept) bunches).past
-        → ((d : Delivered) → PlaceFits end.version d → Fits end (bunches_result end (with_handed d past) [] bunches).past)
-        → Fits end (let p : Progress = elim r [
+    by : (r : Result (Option Delivered) Cause) → bunch_result end past kept b ≡ r → PastFits end (bunches_result end past (b ∷ kept) bunches).past
+        → ((d : Delivered) → PlaceFits end.version d → PastFits end (bunches_result end (with_handed d past) [] bunches).past)
+        → PastFits end (let p : Progress = elim r [
           | Err cause ↦ record { past = past; cause = Some cause }
           | Ok None ↦ bunches_result end past (b ∷ kept) bunches
           | Ok (Some d) ↦ bunches_result end (with_handed d past) [] bunches
@@ -134,10 +134,10 @@ bunches_fit end past kept (b ∷ bunches) k l f =
     by (Ok None) e g h = g
     by (Ok (Some d)) e g h = h d (result_low end past kept b d k l.0 e)
 
-heard_fits : (end : End) (past : Past) (b : Bunch) → Low end.version b → Fits end past → Fits end (bunch_heard end past b).past
+heard_fits : (end : End) (past : Past) (b : Bunch) → Low end.version b → PastFits end past → PastFits end (bunch_heard end past b).past
 heard_fits end past b l f = elim (cases_Bool (is_misplaced end.side b)) [
   | inl e ↦ rw e f
-  | inr e ↦ rw e (cond_both b.reliable (reliable_result end past b got (offer_of got (number_as got b))) (bunches_result end past (kept_of (applied_of got)) (b ∷ [])) (λ (p : Progress). Fits end p.past)
+  | inr e ↦ rw e (cond_both b.reliable (reliable_result end past b got (offer_of got (number_as got b))) (bunches_result end past (kept_of (applied_of got)) (b ∷ [])) (λ (p : Progress). PastFits end p.past)
       (λ r. reliable (offer_of got (number_as got b)))
       (λ r. bunches_fit end past (kept_of (applied_of got)) (b ∷ []) kept (l, tt) f))
 ]
@@ -151,25 +151,25 @@ heard_fits end past b l f = elim (cases_Bool (is_misplaced end.side b)) [
     kept : AllByRecursion (Low end.version) (kept_of (applied_of (received_on past b.channel)))
     kept = kept_low end.version (applied_of (received_on past b.channel)) (run_low end.version (received_on past b.channel) low (next_of (received_on past b.channel) - 1) 1)
 
-    reliable : (offer : Offer) → Fits end (reliable_result end past b (received_on past b.channel) offer).past
+    reliable : (offer : Offer) → PastFits end (reliable_result end past b (received_on past b.channel) offer).past
     reliable Repeat = f
     reliable (Held n) = f
     reliable Ready = bunches_fit end past (kept_of (applied_of (received_on past b.channel))) (ready_bunches (received_on past b.channel) b) kept
         (run_low end.version (with_bunch (received_on past b.channel) b) (bunch_low end.version (received_on past b.channel) b l low)
         (next_of (with_bunch (received_on past b.channel) b) - next_of (received_on past b.channel)) (next_of (received_on past b.channel))) f
 
-entry_fits : (end : End) (past : Past) (entry : Entry) → EntryFits end.version entry → Fits end past → Fits end (entry_result end past entry).past
+entry_fits : (end : End) (past : Past) (entry : Entry) → EntryFits end.version entry → PastFits end past → PastFits end (entry_result end past entry).past
 entry_fits end past (Told head) e f = f
 entry_fits end past (Acked n) e f = f
 entry_fits end past (Heard b) e f = heard_fits end past b e f
 
-pub entries_go : (end : End) (past : Past) (entries : List Entry) → AllByRecursion (EntryFits end.version) entries → Fits end past → Fits end (after_entries end past entries)
+pub entries_go : (end : End) (past : Past) (entries : List Entry) → AllByRecursion (EntryFits end.version) entries → PastFits end past → PastFits end (after_entries end past entries)
 entries_go end past [] e f = f
 entries_go end past (entry ∷ more) e f =
     by (entry_result end past entry).cause (entry_fits end past entry e.0 f) (λ q. entries_go end (with_told entry (entry_result end past entry).past) more e.1 (told_fits end entry (entry_result end past entry).past e.0 q))
   where
-    by : (c : Option Cause) → Fits end (entry_result end past entry).past → (Fits end (entry_result end past entry).past → Fits end (after_entries end (with_told entry (entry_result end past entry).past) more))
-        → Fits end (let later : Past = elim c [ None ↦ after_entries end (with_told entry (entry_result end past entry).past) more | Some cause ↦ Ended (ByCause cause) ∷ (entry_result end past entry).past ] in later)
+    by : (c : Option Cause) → PastFits end (entry_result end past entry).past → (PastFits end (entry_result end past entry).past → PastFits end (after_entries end (with_told entry (entry_result end past entry).past) more))
+        → PastFits end (let later : Past = elim c [ None ↦ after_entries end (with_told entry (entry_result end past entry).past) more | Some cause ↦ Ended (ByCause cause) ∷ (entry_result end past entry).past ] in later)
     by None q next = next q
     by (Some cause) q next = (tt, q)
 
@@ -213,12 +213,12 @@ in_low : (w v : Version) (p : Packet) → AllByRecursion (EntryFits v) (map entr
 in_low One v p h = h
 in_low Two v p h = (tt, h)
 
-read_fits : (end : End) (past : Past) (bytes : List ℕ) (r : Result Packet (ℕ × Why)) → packet_of end.version bytes ≡ r → Fits end past → Fits end (after_reading end past r)
+read_fits : (end : End) (past : Past) (bytes : List ℕ) (r : Result Packet (ℕ × Why)) → packet_of end.version bytes ≡ r → PastFits end past → PastFits end (after_reading end past r)
 read_fits end past bytes (Err bad) e f = f
 read_fits end past bytes (Ok p) e f =
-    cond_both (is_new past p.number) (after_packet end past p) past (Fits end)
+    cond_both (is_new past p.number) (after_packet end past p) past (PastFits end)
     (λ n. entries_go end (Took (unsigned_abs (number_near past p.number)) [] [] ∷ past) (entries_in end.version p)
     (in_low end.version end.version p (recs_low end.version p.recs (recs_of end.version bytes p e))) ((tt, tt), f)) (λ n. f)
 
-pub got_fits : (end : End) (past : Past) (bytes : List ℕ) → Fits end past → Fits end (after_got end past bytes)
-got_fits end past bytes f = cond_both (has_ended past) past (after_reading end past (packet_of end.version bytes)) (Fits end) (λ e. f) (λ e. read_fits end past bytes (packet_of end.version bytes) refl f)
+pub got_fits : (end : End) (past : Past) (bytes : List ℕ) → PastFits end past → PastFits end (after_got end past bytes)
+got_fits end past bytes f = cond_both (has_ended past) past (after_reading end past (packet_of end.version bytes)) (PastFits end) (λ e. f) (λ e. read_fits end past bytes (packet_of end.version bytes) refl f)

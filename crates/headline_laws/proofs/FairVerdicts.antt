@@ -25,14 +25,14 @@ use Rattle.connection_model.specs.Verdict.{verdict_of}
 use Rattle.connection_laws.specs.Honest.{IsReadable, IsTalking}
 use Rattle.connection_laws.proofs.Deeds.{deeds_fit}
 use Rattle.connection_laws.proofs.Feeds.{feed_runs}
-use Rattle.connection_laws.proofs.Scripts.{comes, delivery_ready, told_ready, delivered_number, told_number, all_from, talks_honestly}
-use Rattle.connection_laws.proofs.Sending.{bytes_of_sent}
-use Rattle.connection_laws.proofs.Talking.{Talked, talked}
+use Rattle.connection_laws.proofs.StoriesTalk.{comes, delivery_ready, told_ready, delivered_number, told_number, all_from, talks_honestly}
+use Rattle.connection_laws.proofs.BytesSent.{bytes_of_sent}
+use Rattle.connection_laws.proofs.TalksLink.{Talked, talked}
 use Rattle.payload_laws.specs.Accepted.{AreAccepted}
 use Rattle.headline_laws.specs.Fair.{is_fair_verdict, is_fair_answer, is_fair, HasFairVerdicts}
-use Rattle.headline_laws.proofs.Agreement.{Agreement, agree_talk, client_got, server_got}
-use Rattle.headline_laws.proofs.Prefixes.{feeds_fit}
-use Rattle.headline_laws.proofs.Spelled.{end_fits}
+use Rattle.headline_laws.proofs.EndsAgree.{Agreement, agree_talk, client_got, server_got}
+use Rattle.headline_laws.proofs.CallPrefixes.{feeds_fit}
+use Rattle.headline_laws.proofs.PacketsSpelled.{end_fits}
 use Rattle.headline_laws.proofs.Stories.{FeedsFit, lines_accepted, readable, all_read}
 use Rattle.headline_laws.proofs.Stories as Stories
 use Rattle.headline_laws.proofs.StorySights.{ShownTo, player_shown, told_shown}

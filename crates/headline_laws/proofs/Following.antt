@@ -12,7 +12,7 @@ use Rattle.connection_model.specs.Copies.{delivered_of, class_opened, copy_class
 use Rattle.connection_model.specs.State.{Mark, mark_in, open_class_in, was_opened}
 use Rattle.connection_model.specs.Verdict.{with_told, with_handed}
 use Rattle.connection_laws.specs.Run.{Move, Ticks, Makes, Defers, Sends, Takes, Hears, Hands, Ends, after_move, May, IsRun}
-use Rattle.connection_laws.specs.Delivered.{Numbered, messages_on, handed_reliably}
+use Rattle.connection_laws.specs.Delivered.{on_index, Numbered, messages_on, handed_reliably}
 use Rattle.connection_laws.specs.InTurn.{user_of}
 use Rattle.connection_laws.proofs.Moves.{making_keeps, told_ignored, handed_ignored}
 use Rattle.connection_laws.proofs.Items.{all_weaker, all_append}
@@ -21,11 +21,10 @@ use Rattle.headline_laws.specs.Agree.{applied_in, user_at, CopiesAgree}
 use Rattle.headline_laws.specs.Fits.{IsSpawned}
 use Rattle.headline_laws.specs.Follows.{parts_in, HandsOn, HandsOnAll, IsAhead, CopyAfter, CopyBy, MarksFollow, Follows}
 use Rattle.headline_laws.specs.Marks.{marks_of}
-use Rattle.headline_laws.specs.Whole.{on_index}
-use Rattle.headline_laws.proofs.Agree.{agree_start}
-use Rattle.headline_laws.proofs.Clear.{parts_append}
-use Rattle.headline_laws.proofs.Grows.{grows_by}
-use Rattle.headline_laws.proofs.Next.{count_is}
+use Rattle.headline_laws.proofs.CopiesGoOn.{agree_start}
+use Rattle.headline_laws.proofs.ReceivedFirst.{parts_append}
+use Rattle.headline_laws.proofs.PastGrows.{grows_by}
+use Rattle.headline_laws.proofs.PlaceByNumber.{count_is}
 use Rattle.headline_laws.proofs.Reopened.{marks_it, new_mark, marks_made}
 
 -- ---- the server goes on

@@ -14,7 +14,7 @@ use Rattle.connection_model.specs.Bunches.{made_count, after_making, is_closing}
 use Rattle.connection_model.specs.Copies.{delivered_of, copy_class, copy_channel, has_copy, actor_opened}
 use Rattle.connection_model.specs.State.{Mark, is_mark, mark_in, open_class_in, was_opened}
 use Rattle.connection_laws.specs.Run.{Move, Ticks, Makes, Defers, Sends, Takes, Hears, Hands, Ends, after_move, May, IsRun}
-use Rattle.connection_laws.specs.Delivered.{Numbered, messages_on, handed_reliably}
+use Rattle.connection_laws.specs.Delivered.{on_index, Numbered, messages_on, handed_reliably}
 use Rattle.connection_laws.proofs.Moves.{told_ignored, handed_ignored}
 use Rattle.connection_laws.proofs.Deeds.{always}
 use Rattle.connection_laws.proofs.Items.{all_weaker}
@@ -29,15 +29,15 @@ use Rattle.headline_laws.specs.Fits.{IsSpawned}
 use Rattle.headline_laws.specs.Follows.{parts_in, HandsOn, HandsOnAll, IsDone, IsAhead, CopyAfter, MarksFollow, Follows}
 use Rattle.headline_laws.specs.Marks.{marks_of, without_newest, MarkComes, MarksCome}
 use Rattle.headline_laws.specs.Tells.{MessageTells, DeedTells, OpenExports}
-use Rattle.headline_laws.specs.Whole.{on_index, MadeAt}
-use Rattle.headline_laws.proofs.Agree.{agrees_on}
-use Rattle.headline_laws.proofs.Clear.{parts_append, clear_at}
+use Rattle.headline_laws.specs.Whole.{MadeAt}
+use Rattle.headline_laws.proofs.CopiesGoOn.{agrees_on}
+use Rattle.headline_laws.proofs.ReceivedFirst.{parts_append, clear_at}
 use Rattle.headline_laws.proofs.Following.{copy_stays}
-use Rattle.headline_laws.proofs.Next.{all_mid, all_front, place_at, number_is, behind_next}
-use Rattle.headline_laws.proofs.Order.{made_low}
-use Rattle.headline_laws.proofs.Passes.{each_made, exports_in, path_stands, close_finds, ServerFacts, Ready, Comes, at_turn, CanHand}
+use Rattle.headline_laws.proofs.PlaceByNumber.{all_mid, all_front, place_at, number_is, behind_next}
+use Rattle.headline_laws.proofs.MarksInOrder.{made_low}
+use Rattle.headline_laws.proofs.NextPasses.{each_made, exports_in, path_stands, close_finds, ServerFacts, Ready, Comes, at_turn, CanHand}
 use Rattle.headline_laws.proofs.Reopened.{marks_it, new_mark, marks_made, marks_at, IsMade}
-use Rattle.headline_laws.proofs.Turns.{next_in_turn}
+use Rattle.headline_laws.proofs.NextInTurn.{next_in_turn}
 use Rattle.protocol_model.specs.Side.{AtServer}
 use Rattle.payload_laws.specs.Accepted.{StandsIn}
 

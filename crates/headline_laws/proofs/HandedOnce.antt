@@ -22,25 +22,25 @@ use Rattle.connection_model.specs.Past.{past_of}
 use Rattle.connection_laws.specs.Run.{Move, Ticks, Makes, Defers, Sends, Takes, Hears, Hands, Ends, after_move, May, IsRun}
 use Rattle.connection_laws.specs.Run.IsRun.{does}
 use Rattle.connection_laws.specs.Taken.{Falls}
-use Rattle.connection_laws.specs.Link.{Said, Holds, all_said, said_by}
+use Rattle.connection_laws.specs.Link.{Said, SaysItem, all_said, said_by}
 use Rattle.connection_laws.specs.Talk.{MayHear, IsTalk}
 use Rattle.connection_laws.specs.Talk.IsTalk.{start, left_hears, right_hears}
-use Rattle.connection_laws.proofs.Between.{reads_there, reads_back}
+use Rattle.connection_laws.proofs.LinkLaws.{reads_there, reads_back}
 use Rattle.connection_laws.proofs.Calling.{call_runs}
 use Rattle.connection_laws.proofs.Feeds.{feed_done, feed_runs}
-use Rattle.connection_laws.proofs.Live.{IsQuiet, Goes}
+use Rattle.connection_laws.proofs.LiveRuns.{IsQuiet, Goes}
 use Rattle.connection_laws.proofs.Moves.{making_keeps}
-use Rattle.connection_laws.proofs.Owed.{taken_falls}
+use Rattle.connection_laws.proofs.OwedAscend.{taken_falls}
 use Rattle.connection_laws.proofs.Searches.{among_here, among_there, greatest_of-cons}
-use Rattle.connection_laws.proofs.Talking.{Talked, talked, left_stays, right_stays}
+use Rattle.connection_laws.proofs.TalksLink.{Talked, talked, left_stays, right_stays}
 use Rattle.connection_laws.proofs.Ticking.{tick_runs}
 use Rattle.payload_laws.specs.Accepted.{AreAccepted}
-use Rattle.headline_laws.specs.Fits.{Fits}
+use Rattle.headline_laws.specs.Fits.{PastFits}
 use Rattle.headline_laws.specs.Once.{loosely_sent_by, loosely_sent, loosely_handed_in, loosely_handed, loosely_queued}
-use Rattle.headline_laws.proofs.Agreement.{Agreement, FeedsKnown, agree_talk, client_got_with, server_got_with, rest_sees, rest_blind}
+use Rattle.headline_laws.proofs.EndsAgree.{Agreement, FeedsKnown, agree_talk, client_got_with, server_got_with, rest_sees, rest_blind}
 use Rattle.headline_laws.proofs.ClientHears.{loose_said, loosely}
-use Rattle.headline_laws.proofs.Counted.{count, count_both, count_reverse, messages_reverse, sent_once}
-use Rattle.headline_laws.proofs.Spelled.{end_fits}
+use Rattle.headline_laws.proofs.SentOnce.{count, count_both, count_reverse, messages_reverse, sent_once}
+use Rattle.headline_laws.proofs.PacketsSpelled.{end_fits}
 
 module _ (t : Asked → Bool) (v : Version) where
   -- ---- counts of what was said and handed on
@@ -142,7 +142,7 @@ module _ (t : Asked → Bool) (v : Version) where
           omega (arith, here, rest)
       by false e h = (let here : cond (n == k) a (g k) ≡ g k = ap (λ (b : Bool). cond b a (g k)) e in omega (arith, here, h))
 
-  items_said : (items : List Item) → filter_map asked_in (filter_map loose_said (map (λ (item : Item). Holds item) items)) ≡ filter_map loosely_sent_by items
+  items_said : (items : List Item) → filter_map asked_in (filter_map loose_said (map (λ (item : Item). SaysItem item) items)) ≡ filter_map loosely_sent_by items
   items_said [] = refl
   items_said (Owed n ∷ items) = items_said items
   items_said (Carries c n b ∷ items) = items_said items
@@ -190,7 +190,7 @@ module _ (entries : List Entry) (is : IsTable entries) (player : ℕ) (edits : E
     pub there : EachTook t v l r
     pub back : EachTook t v r l
 
-  left_once : (l : List Event) (r : Past) (event : Event) → Fits right r → Talked v left right (past_of left l) r → Agreement entries player edits left right (past_of left l) r → MayHear left right (past_of left l) r event
+  left_once : (l : List Event) (r : Past) (event : Event) → PastFits right r → Talked v left right (past_of left l) r → Agreement entries player edits left right (past_of left l) r → MayHear left right (past_of left l) r event
       → Once (past_of left l) r → Once (past_of left (event ∷ l)) r
   left_once l r event fits talk a q h = record {
     there = took_later t v (past_of left l) (past_of left (event ∷ l)) r
@@ -208,7 +208,7 @@ module _ (entries : List Entry) (is : IsTable entries) (player : ℕ) (edits : E
           (server_got_with entries is player edits ok v left right lv rv server client left_table right_table (past_of left l) r bytes (EachTook t v r) h.back
           (λ k es ds e. (taken_few t v ds (said_by v r k) e, h.back)) fits talk a q).result.1
 
-  right_once : (l : Past) (r : List Event) (event : Event) → Fits left l → Talked v left right l (past_of right r) → Agreement entries player edits left right l (past_of right r) → MayHear right left (past_of right r) l event
+  right_once : (l : Past) (r : List Event) (event : Event) → PastFits left l → Talked v left right l (past_of right r) → Agreement entries player edits left right l (past_of right r) → MayHear right left (past_of right r) l event
       → Once l (past_of right r) → Once l (past_of right (event ∷ r))
   right_once l r event fits talk a q h = record {
     there = by event q;

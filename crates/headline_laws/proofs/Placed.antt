@@ -17,7 +17,7 @@ use Rattle.connection_laws.specs.Run.{Move, Ticks, Makes, Defers, Sends, Takes, 
 use Rattle.connection_laws.specs.Deeds.{EachDeed}
 use Rattle.connection_laws.proofs.Moves.{making_keeps, told_keeps, handed_keeps}
 use Rattle.connection_laws.proofs.Deeds.{always}
-use Rattle.connection_laws.proofs.Marks.{holds_fit}
+use Rattle.connection_laws.proofs.ActorMarks.{holds_fit}
 use Rattle.payload_laws.specs.Passing.{is_gone}
 use Rattle.payload_laws.proofs.HeaderRules.{client_placed, loose_placed}
 use Rattle.headline_laws.specs.Placed.{PlacedAtClient}

@@ -10,18 +10,18 @@ use Rattle.connection_model.specs.State.{Mark, is_mark, mark_in, last_mark, stat
 use Rattle.connection_model.specs.Verdict.{with_told, with_handed}
 use Rattle.connection_laws.specs.Run.{Move, Ticks, Makes, Defers, Sends, Takes, Hears, Hands, Ends, after_move, May, MayMake, IsRun}
 use Rattle.connection_laws.specs.Link.{IsLink}
-use Rattle.connection_laws.specs.Delivered.{Numbered, numbered_in}
+use Rattle.connection_laws.specs.Delivered.{on_index, Numbered, numbered_in}
 use Rattle.connection_laws.proofs.Moves.{making_keeps, told_ignored, handed_ignored}
 use Rattle.connection_laws.proofs.Deeds.{always}
 use Rattle.connection_laws.proofs.Arrivals.{arrival_made, arrival_sent, arrival_told, arrival_handed}
 use Rattle.connection_laws.proofs.Fates.{moves_sent}
 use Rattle.connection_laws.proofs.Items.{all_weaker}
 use Rattle.connection_laws.proofs.Spans.{some_parts}
-use Rattle.connection_laws.proofs.Linked.{left_run}
+use Rattle.connection_laws.proofs.LinkedEnds.{left_run}
 use Rattle.payload_laws.proofs.Bounds.{close_parts}
-use Rattle.headline_laws.specs.Whole.{on_index, MadeAt, IsReceived, ArrivesWhole}
+use Rattle.headline_laws.specs.Whole.{MadeAt, IsReceived, ArrivesWhole}
 use Rattle.headline_laws.specs.Marks.{marks_of, without_newest, CloseArrived, ClosesArrived, ClosesReceived}
-use Rattle.headline_laws.proofs.Clear.{arrived_each, whole_there}
+use Rattle.headline_laws.proofs.ReceivedFirst.{arrived_each, whole_there}
 
 -- ---- the marks after a message
 

@@ -25,40 +25,40 @@ use Rattle.connection_laws.specs.Run.{Move, Ticks, Makes, Defers, Sends, Takes, 
 use Rattle.connection_laws.specs.Deeds.{EachDeed}
 use Rattle.connection_laws.specs.Delivered.{Numbered, messages_on, payload_of}
 use Rattle.connection_laws.specs.InTurn.{user_of, user_said}
-use Rattle.connection_laws.specs.Link.{Said, Tells, Holds, entry_said, said_by, IsLink}
+use Rattle.connection_laws.specs.Link.{Said, SaysHead, SaysItem, entry_said, said_by, IsLink}
 use Rattle.connection_laws.specs.Link.IsLink.{left_does}
-use Rattle.connection_laws.proofs.Between.{applies_back}
+use Rattle.connection_laws.proofs.LinkLaws.{applies_back}
 use Rattle.connection_laws.proofs.Deeds.{deeds_fit, each_at}
-use Rattle.connection_laws.proofs.Hands.{entry_loose}
+use Rattle.connection_laws.proofs.HandingOn.{entry_loose}
 use Rattle.connection_laws.proofs.InTurn.{OpenMark, held_open}
 use Rattle.connection_laws.proofs.Items.{all_weaker, all_reverse}
-use Rattle.connection_laws.proofs.Linked.{left_names, right_run}
+use Rattle.connection_laws.proofs.LinkedEnds.{left_names, right_run}
 use Rattle.connection_laws.proofs.Moves.{making_keeps, told_keeps, handed_keeps}
-use Rattle.connection_laws.proofs.Said.{Among, in_middle, all_at, carried_facts}
+use Rattle.connection_laws.proofs.PacketsSay.{IsIn, in_middle, all_at, carried_facts}
 use Rattle.payload_laws.specs.Passing.{is_gone, is_reliable, CallPasses, Passes}
 use Rattle.payload_laws.proofs.First.{made_back, loose_back}
 use Rattle.payload_laws.proofs.HeaderRules.{server_placed, loose_placed}
 use Rattle.payload_laws.proofs.OthersPassing.{call_passes}
 use Rattle.headline_laws.specs.Agree.{user_at}
-use Rattle.headline_laws.specs.Fits.{Fits}
+use Rattle.headline_laws.specs.Fits.{PastFits}
 use Rattle.headline_laws.specs.Follows.{HandsOnAll, HandsOnWhole, Follows}
 use Rattle.headline_laws.specs.Sights.{sights_of, SeesNothing}
 use Rattle.headline_laws.specs.Tells.{SaysCall}
 use Rattle.headline_laws.specs.Whole.{MadeAt}
-use Rattle.headline_laws.proofs.Bunches.{Steps, CarriedHeard}
-use Rattle.headline_laws.proofs.Carried.{dir_back, hears_carried, whole_after, whole_else}
-use Rattle.headline_laws.proofs.Clear.{mark_at}
-use Rattle.headline_laws.proofs.Grows.{SaidAt, said_at}
+use Rattle.headline_laws.proofs.BunchHandsOn.{Steps, CarriedHeard}
+use Rattle.headline_laws.proofs.CarriedBunches.{dir_back, hears_carried, whole_after, whole_else}
+use Rattle.headline_laws.proofs.ReceivedFirst.{mark_at}
+use Rattle.headline_laws.proofs.PastGrows.{SaidAt, said_at}
 use Rattle.headline_laws.proofs.HandedOn.{hands_one, done_here, done_else, handed_elsewhere}
-use Rattle.headline_laws.proofs.Loose.{loose_handed, fits_back, waited_short}
-use Rattle.headline_laws.proofs.Next.{place_at}
-use Rattle.headline_laws.proofs.Order.{asleep_sleeps}
-use Rattle.headline_laws.proofs.Passes.{each_made, all_reliable, IsReliable, ServerFacts, Comes, spawned_actor}
+use Rattle.headline_laws.proofs.LooseMessages.{loose_handed, fits_back, waited_short}
+use Rattle.headline_laws.proofs.PlaceByNumber.{place_at}
+use Rattle.headline_laws.proofs.MarksInOrder.{asleep_sleeps}
+use Rattle.headline_laws.proofs.NextPasses.{each_made, all_reliable, IsReliable, ServerFacts, Comes, spawned_actor}
 use Rattle.headline_laws.proofs.Placed.{Rule, rules}
-use Rattle.headline_laws.proofs.Says.{known_limits, opened_is}
+use Rattle.headline_laws.proofs.ServerSays.{known_limits, opened_is}
 use Rattle.headline_laws.proofs.Ticks.{meant}
 use Rattle.headline_laws.proofs.ClientHears.{loose_said, loosely}
-use Rattle.headline_laws.proofs.Turns.{user_done}
+use Rattle.headline_laws.proofs.NextInTurn.{user_done}
 use Rattle.protocol_model.specs.Search.{newest_of}
 use Rattle.std.specs.Bool.{then_some}
 
@@ -299,7 +299,7 @@ found_placed entries classes l (Took k es ds ∷ past) ch n b f e = found_placed
 found_placed entries classes l (Ended g ∷ past) ch n b f e = found_placed entries classes l past ch n b f.1 e
 
 module _ (entries : List Entry) (is : IsTable entries) (classes : ℕ → Class) (left right : End) (same : left.version ≡ right.version) (server : left.side ≡ AtServer)
-    (r : Past) (fits : Fits right r) (few : (ch : ℕ) → AllByRecursion (λ (made : Numbered). parts_of made.1 ≤ 10) (messages_on r ch))
+    (r : Past) (fits : PastFits right r) (few : (ch : ℕ) → AllByRecursion (λ (made : Numbered). parts_of made.1 ≤ 10) (messages_on r ch))
     (k : ℕ) (past : Past) (alive : has_ended past ≡ false) (fresh : top_of past < k)
     (facts : (es : List Feed.Entry) (ds : List Delivered) → IsLink left right (Took k es ds ∷ past) r → ServerFacts entries classes left (Took k es ds ∷ past)) (says : (es : List Feed.Entry) (ds : List Delivered) → ClientSays entries classes (Took k es ds ∷ past) r) where
   -- what is heard of one thing that a packet says
@@ -340,8 +340,8 @@ module _ (entries : List Entry) (is : IsTable entries) (classes : ℕ → Class)
       }
 
   module _ (es : List Feed.Entry) (s : Said) (before after : List Said) (said : said_by left.version r k ≡ before ++ s ∷ after) (told : es ≡ reverse (map entry_said before)) where
-    among : Among s (said_by left.version r k)
-    among = subst (Among s) (sym said) (in_middle s before after)
+    among : IsIn s (said_by left.version r k)
+    among = subst (IsIn s) (sym said) (in_middle s before after)
 
     names : (ds : List Delivered) → IsLink left right (Took k es ds ∷ past) r → ack_cause (Took k es ds ∷ past) (entry_said s) ≡ None
     names ds link = left_names left right k es ds past r (entry_said s) same link (before, s, after, said, told, refl)
@@ -366,24 +366,24 @@ module _ (entries : List Entry) (is : IsTable entries) (classes : ℕ → Class)
     loose = ap (λ (o : Option Message). cons_option o (loosely ds)) (sym q);
   }
 
-  carries_one : (es : List Feed.Entry) (ds : List Delivered) (ch n : ℕ) (b : Bunch) (before after : List Said) → said_by left.version r k ≡ before ++ Holds (Carries ch n b) ∷ after → es ≡ reverse (map entry_said before)
-      → IsLink left right (Took k es ds ∷ past) r → Served (Took k es ds ∷ past) r → ServedOne es ds (Holds (Carries ch n b))
+  carries_one : (es : List Feed.Entry) (ds : List Delivered) (ch n : ℕ) (b : Bunch) (before after : List Said) → said_by left.version r k ≡ before ++ SaysItem (Carries ch n b) ∷ after → es ≡ reverse (map entry_said before)
+      → IsLink left right (Took k es ds ∷ past) r → Served (Took k es ds ∷ past) r → ServedOne es ds (SaysItem (Carries ch n b))
   carries_one es ds ch n b before after said told link f =
-      let here : Among (Holds (Carries ch n b)) (said_by left.version r k) = among es (Holds (Carries ch n b)) before after said told in
+      let here : IsIn (SaysItem (Carries ch n b)) (said_by left.version r k) = among es (SaysItem (Carries ch n b)) before after said told in
       let start : Mid es ch (λ c. (f.hands c).done) ds ds = record { link = link; hands = f.hands; others = λ c ne. refl; loose = refl } in
       let run : IsRun right r = right_run left right (Took k es ds ∷ past) r link in
       let placed : is_misplaced left.side b ≡ false =
       ap (λ (x : Side). is_misplaced x b) server ∙ found_placed entries classes (Took k es ds ∷ past) r ch n b (says es ds) (carried_facts right left.version r (deeds_fit right r run) ch n k b here).made in
       let dir = dir_back left right (Took k es ds ∷ past) r same link in
-      let after_told = applies_back left right (Took k (Heard b ∷ es) ds ∷ past) r same (hears es (Holds (Carries ch n b)) before after said told ds link) in
+      let after_told = applies_back left right (Took k (Heard b ∷ es) ds ∷ past) r same (hears es (SaysItem (Carries ch n b)) before after said told ds link) in
       let c : CarriedHeard left k es past ch (messages_on r ch) (few ch) (Mid es ch (λ c. (f.hands c).done) ds) (mid_done es ch (λ c. (f.hands c).done) ds) (mid_steps es ch (λ c. (f.hands c).done) ds) ds b =
       hears_carried left.version right left r k es past fresh ch n b here (few ch) placed (Mid es ch (λ c. (f.hands c).done) ds) (mid_done es ch (λ c. (f.hands c).done) ds) (mid_steps es ch (λ c. (f.hands c).done) ds) ds start dir after_told (f.whole ch)
       ((f.hands ch).later, (f.hands ch).split) in
       record {
         news = c.news;
         ok = c.ok;
-        link = hears es (Holds (Carries ch n b)) before after said told c.news c.state.link;
-        served = told_served es (Holds (Carries ch n b)) before after said told c.news c.state.hands (λ x. elim (cases_eq ch x) [
+        link = hears es (SaysItem (Carries ch n b)) before after said told c.news c.state.link;
+        served = told_served es (SaysItem (Carries ch n b)) before after said told c.news c.state.hands (λ x. elim (cases_eq ch x) [
           | inl e ↦ subst (λ (y : ℕ). wholes_of (Took k (Heard b ∷ es) c.news ∷ past) y ≡ map (payload_of y) (c.state.hands y).done) e
               (whole_after left.version right left r k es past fresh ch n b here (few ch) placed (Mid es ch (λ c. (f.hands c).done) ds) (mid_done es ch (λ c. (f.hands c).done) ds) (mid_steps es ch (λ c. (f.hands c).done) ds) ds start dir after_told (f.whole ch)
               ((f.hands ch).later, (f.hands ch).split) c.news c.state c.whole)
@@ -393,14 +393,14 @@ module _ (entries : List Entry) (is : IsTable entries) (classes : ℕ → Class)
         loose = c.state.loose;
       }
 
-  loose_one : (es : List Feed.Entry) (ds : List Delivered) (m : Message) (b : Bunch) (before after : List Said) → said_by left.version r k ≡ before ++ Holds (Loose m b) ∷ after → es ≡ reverse (map entry_said before)
-      → IsLink left right (Took k es ds ∷ past) r → Served (Took k es ds ∷ past) r → ServedOne es ds (Holds (Loose m b))
+  loose_one : (es : List Feed.Entry) (ds : List Delivered) (m : Message) (b : Bunch) (before after : List Said) → said_by left.version r k ≡ before ++ SaysItem (Loose m b) ∷ after → es ≡ reverse (map entry_said before)
+      → IsLink left right (Took k es ds ∷ past) r → Served (Took k es ds ∷ past) r → ServedOne es ds (SaysItem (Loose m b))
   loose_one es ds m b before after said told link f =
-      let at : SaidAt right r k (Loose m b) = said_at left.version right r (right_run left right (Took k es ds ∷ past) r link) k (Loose m b) (among es (Holds (Loose m b)) before after said told) in
+      let at : SaidAt right r k (Loose m b) = said_at left.version right r (right_run left right (Took k es ds ∷ past) r link) k (Loose m b) (among es (SaysItem (Loose m b)) before after said told) in
       let known : ClientItem entries classes (Took k es ds ∷ past) (Loose m b) =
       all_at (ClientItem entries classes (Took k es ds ∷ past)) (Loose m b) at.items (each_at (ClientDeed entries classes (Took k es ds ∷ past)) at.later (Sent k at.t at.items) at.before (subst (EachDeed (ClientDeed entries classes (Took k es ds ∷ past))) at.is (says es ds))) at.among in
       let place = all_at (MaySend right at.before) (Loose m b) at.items at.at.may.each at.among in
-      let older : Fits right at.before = (fits_back right at.later (Sent k at.t at.items ∷ at.before) (subst (Fits right) at.is fits)).1 in
+      let older : PastFits right at.before = (fits_back right at.later (Sent k at.t at.items ∷ at.before) (subst (PastFits right) at.is fits)).1 in
       let ch : ℕ = known.1.0 in
       let through = call_through entries is classes left (Took k es ds ∷ past) known.1.0 m server (facts es ds link) known.0 in
       let d : Delivered = delivery_of left (Took k es ds ∷ past) (loose_bunch known.1.0 m) m in
@@ -415,14 +415,14 @@ module _ (entries : List Entry) (is : IsTable entries) (classes : ℕ → Class)
       record {
         news = d ∷ ds;
         ok = ap (bunch_heard left (Took k es ds ∷ past)) known.1.2 ∙ heard;
-        link = hears es (Holds (Loose m b)) before after said told (d ∷ ds) handed;
-        served = told_served es (Holds (Loose m b)) before after said told (d ∷ ds)
+        link = hears es (SaysItem (Loose m b)) before after said told (d ∷ ds) handed;
+        served = told_served es (SaysItem (Loose m b)) before after said told (d ∷ ds)
             (λ c. record { done = (f.hands c).done; later = (f.hands c).later; split = (f.hands c).split; same = ap (map (λ (x : Delivered). x.message)) (handed_elsewhere (Took k es ds ∷ past) (Took k es (d ∷ ds) ∷ past) d refl c (and_right (d.channel == c) d.reliable refl)) ∙ (f.hands c).same })
             (λ c. ap (λ (got : List Received). wholes_from [] (applied_of got)) (entry_loose (received_on (Took k es ds ∷ past) c) c b (ap (λ (x : Bunch). x.reliable) known.1.2)) ∙ f.whole c);
         loose = refl;
       }
     where
-      loose_short : (m : Message) → CallKnown entries classes (Took k es ds ∷ past) m → (c : ℕ) (s : Past) → HasLoosePlace right s c m → Fits right s → (length (message_bits m) ≤ 7000) × (is_reliable m ≡ false)
+      loose_short : (m : Message) → CallKnown entries classes (Took k es ds ∷ past) m → (c : ℕ) (s : Past) → HasLoosePlace right s c m → PastFits right s → (length (message_bits m) ≤ 7000) × (is_reliable m ≡ false)
       loose_short (Calls a n call args) h c s p older = (waited_short right s (Calls a n call args) older p.2.0 p.2.1 p.2.2, p.0)
       loose_short (Opens exports a class values) h c s p older = absurd h
       loose_short (Closes a sleeps) h c s p older = absurd h
@@ -430,7 +430,7 @@ module _ (entries : List Entry) (is : IsTable entries) (classes : ℕ → Class)
       loose_short (Gone a) h c s p older = absurd h
 
   pub serves_one : (es : List Feed.Entry) (ds : List Delivered) (s : Said) (before after : List Said) → said_by left.version r k ≡ before ++ s ∷ after → es ≡ reverse (map entry_said before) → IsLink left right (Took k es ds ∷ past) r → Served (Took k es ds ∷ past) r → ServedOne es ds s
-  serves_one es ds (Tells head) before after said told link f = told_one es ds (Tells head) before after said told link f refl refl (λ c. refl)
-  serves_one es ds (Holds (Owed n)) before after said told link f = told_one es ds (Holds (Owed n)) before after said told link f refl refl (λ c. refl)
-  serves_one es ds (Holds (Carries ch n b)) before after said told link f = carries_one es ds ch n b before after said told link f
-  serves_one es ds (Holds (Loose m b)) before after said told link f = loose_one es ds m b before after said told link f
+  serves_one es ds (SaysHead head) before after said told link f = told_one es ds (SaysHead head) before after said told link f refl refl (λ c. refl)
+  serves_one es ds (SaysItem (Owed n)) before after said told link f = told_one es ds (SaysItem (Owed n)) before after said told link f refl refl (λ c. refl)
+  serves_one es ds (SaysItem (Carries ch n b)) before after said told link f = carries_one es ds ch n b before after said told link f
+  serves_one es ds (SaysItem (Loose m b)) before after said told link f = loose_one es ds m b before after said told link f

@@ -21,7 +21,7 @@ use Rattle.connection_model.specs.Verdict.{with_told, entry_result, after_entrie
 use Rattle.connection_laws.specs.Run.{Move, Ticks, Makes, Defers, Sends, Takes, Hears, Hands, Ends, after_move, May, IsRun}
 use Rattle.connection_laws.specs.Run.IsRun.{does}
 use Rattle.connection_laws.proofs.Moves.{made_ignored, told_ignored, handed_ignored}
-use Rattle.connection_laws.proofs.Live.{IsQuiet, Goes, IsDone}
+use Rattle.connection_laws.proofs.LiveRuns.{IsQuiet, Goes, IsDone}
 use Rattle.connection_laws.proofs.Calling.{call_runs}
 use Rattle.connection_laws.proofs.Hearing.{entry_runs}
 use Rattle.connection_laws.proofs.Ticking.{tick_runs}
@@ -32,7 +32,7 @@ use Rattle.payload_laws.proofs.WorldValues.{same_some}
 use Rattle.payload_laws.proofs.SightSpelling.{spawns_few, sight_spells, from, numbered}
 use Rattle.headline_laws.specs.Sights.{sight_in, sights_of, Seeing, shown_by, SeesNothing}
 use Rattle.headline_laws.specs.Tells.{IsKnownActor}
-use Rattle.headline_laws.proofs.Constant.{class_stays}
+use Rattle.headline_laws.proofs.ActorsStay.{class_stays}
 use Rattle.connection_model.specs.Pack.{after_tick}
 use Rattle.connection_model.specs.CallAnswers.{after_call}
 

@@ -15,7 +15,7 @@ use Rattle.connection_model.specs.Fates.{top_of}
 use Rattle.replication_model.specs.Headline.{HasJoined}
 use Rattle.replication_model.specs.Story.{Player, Story, first_story, end_of, past_at, out_at, with_event, other_side, Reported, earlier_of, after_tick_of, after_datagram, after_forgery, after_delivery, also_delivery, told_before, with_told, is_kept, after_new_deliveries, after_call_of, settled_answer, copies_reports, new_player, after_line, also_line, story_of}
 use Rattle.connection_laws.specs.Honest.{IsReadable, AllRead}
-use Rattle.connection_laws.proofs.Said.{Among, in_middle, all_at}
+use Rattle.connection_laws.proofs.PacketsSay.{IsIn, in_middle, all_at}
 use Rattle.table_model.specs.Facts.{IsTable}
 use Rattle.table_model.specs.Rules.{Entry}
 use Rattle.table_model.specs.Grammar.{table_of}
@@ -24,8 +24,8 @@ use Rattle.payload_laws.specs.Limits.{AreSegments}
 use Rattle.payload_laws.proofs.TableFacts.{path_segments, few_in}
 use Rattle.payload_laws.proofs.WorldValues.{same_some}
 use Rattle.payload_laws.proofs.SightSpelling.{spawns_few, sight_spells, from, numbered}
-use Rattle.headline_laws.specs.Fits.{SeenFits, EventFits, Fits}
-use Rattle.headline_laws.proofs.Spelled.{packets_read, end_fits}
+use Rattle.headline_laws.specs.Fits.{SeenFits, EventFits, PastFits}
+use Rattle.headline_laws.proofs.PacketsSpelled.{packets_read, end_fits}
 
 -- ---- sights
 
@@ -157,17 +157,17 @@ lines_keep entries is (line ∷ lines) told ok h =
 
 -- each end's past, after all lines
 pub ends_fit : (entries : List Entry) (lines : List Line) (p : Player) (side : Side) → IsTable entries → AreAccepted (table_of entries) (story_of (table_of entries) lines).0.edits → HasJoined (story_of (table_of entries) lines).0 p
-    → Fits (end_of (table_of entries) side p) (past_at (table_of entries) side p)
+    → PastFits (end_of (table_of entries) side p) (past_at (table_of entries) side p)
 ends_fit entries lines p side is ok joined = by side
   where
     feeds : FeedsFit p
-    feeds = all_at FeedsFit p (story_of (table_of entries) lines).0.players (lines_keep entries is lines (first_story, []) ok tt) (subst (Among p) (sym joined.2) (in_middle p joined.0 joined.1))
+    feeds = all_at FeedsFit p (story_of (table_of entries) lines).0.players (lines_keep entries is lines (first_story, []) ok tt) (subst (IsIn p) (sym joined.2) (in_middle p joined.0 joined.1))
 
-    by : (side : Side) → Fits (end_of (table_of entries) side p) (past_at (table_of entries) side p)
+    by : (side : Side) → PastFits (end_of (table_of entries) side p) (past_at (table_of entries) side p)
     by AtServer = end_fits (end_of (table_of entries) AtServer p) entries is refl p.server_feed feeds.0
     by AtClient = end_fits (end_of (table_of entries) AtClient p) entries is refl p.client_feed feeds.1
 
-pub readable : (table : Table) (side : Side) (p : Player) → Fits (end_of table side p) (past_at table side p) → IsReadable table side p
+pub readable : (table : Table) (side : Side) (p : Player) → PastFits (end_of table side p) (past_at table side p) → IsReadable table side p
 readable table AtServer p f k packet e = packets_read (end_of table AtServer p) (past_at table AtServer p) k packet f e
 readable table AtClient p f k packet e = packets_read (end_of table AtClient p) (past_at table AtClient p) k packet f e
 

@@ -13,7 +13,7 @@ use Rattle.connection_model.specs.Fates.{top_of}
 use Rattle.replication_model.specs.Headline.{HasJoined}
 use Rattle.replication_model.specs.Story.{Player, Story, first_story, past_at, out_at, with_event, other_side, Reported, earlier_of, after_tick_of, after_datagram, after_forgery, after_delivery, also_delivery, told_before, with_told, is_kept, after_new_deliveries, after_call_of, settled_answer, copies_reports, new_player, after_line, also_line, story_of}
 use Rattle.connection_laws.proofs.Items.{all_weaker}
-use Rattle.connection_laws.proofs.Said.{Among, in_middle, all_at}
+use Rattle.connection_laws.proofs.PacketsSay.{IsIn, in_middle, all_at}
 use Rattle.headline_laws.specs.Sights.{Seeing, shown_by, SeesNothing}
 use Rattle.headline_laws.proofs.Sights.{seeing_later}
 
@@ -107,4 +107,4 @@ players_shown table lines = lines_shown table lines (first_story, []) tt
 -- each player's ends are shown their own world
 pub player_shown : (table : Table) (lines : List Line) (p : Player) → HasJoined (story_of table lines).0 p → ShownTo table (story_of table lines).0.edits p
 player_shown table lines p joined =
-    all_at (ShownTo table (story_of table lines).0.edits) p (story_of table lines).0.players (players_shown table lines) (subst (Among p) (sym joined.2) (in_middle p joined.0 joined.1))
+    all_at (ShownTo table (story_of table lines).0.edits) p (story_of table lines).0.players (players_shown table lines) (subst (IsIn p) (sym joined.2) (in_middle p joined.0 joined.1))

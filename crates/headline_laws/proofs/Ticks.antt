@@ -22,12 +22,12 @@ use Rattle.protocol_model.specs.declared.CallAnswer.TheVariants.{Queued, Dead, N
 use Rattle.connection_model.specs.Pack.{Packing, after_closes, after_offer, after_actor, packing_of, packets_to_send, after_sending, after_stall, after_packing, after_tick}
 use Rattle.connection_laws.specs.Run.{IsRun, Ticks}
 use Rattle.connection_laws.specs.Run.IsRun.{does}
-use Rattle.connection_laws.proofs.Live.{IsDone, runs_go}
+use Rattle.connection_laws.proofs.LiveRuns.{IsDone, runs_go}
 use Rattle.connection_laws.proofs.Items.{all_append, all_weaker}
 use Rattle.connection_laws.proofs.Fates.{fates_fit}
 use Rattle.connection_laws.proofs.Spans.{spans_fit}
 use Rattle.connection_laws.proofs.Packing.{PacksOn, offers_past, actor_packs, actor_sight}
-use Rattle.connection_laws.proofs.Shown.{SeenNow, seen_like, actors_seen_now}
+use Rattle.connection_laws.proofs.ActorsShown.{SeenNow, seen_like, actors_seen_now}
 use Rattle.connection_laws.proofs.Ticking.{IsTicking, closes_tick, first_packs, packing_packs}
 use Rattle.payload_laws.specs.Limits.{HasLimits}
 use Rattle.table_model.specs.Rules.{args_limit}
@@ -35,9 +35,9 @@ use Rattle.std.proofs.lemmas.Nat.{mod_below}
 use Rattle.packet_codec.proofs.BunchSpelled.{is_lower}
 use Rattle.packet_codec.proofs.Lengths.{power_width}
 use Rattle.payload_laws.proofs.Bounds.{call_most}
-use Rattle.headline_laws.specs.Fits.{SeenFits, ItemFits, start_length, Fits}
-use Rattle.headline_laws.proofs.Places.{due_fits, waiting_short, calls_fit, call_fits, free_below}
-use Rattle.headline_laws.proofs.Packs.{fits_made, closes_fit, PackingFits, offers_fit, actor_fits, actors_seen, SentFits, all_fit, to_send_fit}
+use Rattle.headline_laws.specs.Fits.{SeenFits, ItemFits, start_length, PastFits}
+use Rattle.headline_laws.proofs.ChannelsFit.{due_fits, waiting_short, calls_fit, call_fits, free_below}
+use Rattle.headline_laws.proofs.PacketsFit.{fits_made, closes_fit, PackingFits, offers_fit, actor_fits, actors_seen, SentFits, all_fit, to_send_fit}
 
 abbrev length_of : Message → ℕ
 length_of m = length (message_bits m)
@@ -58,7 +58,7 @@ owed_fits : (v : Version) (past : Past) → AllByRecursion (ItemFits v) (map (λ
 owed_fits One past = owed_fit_in (owed_of One past)
 owed_fits Two past = tt
 
-first_fit : (end : End) (before now : Past) → Fits end before → Fits end now → AllByRecursion (ItemFits end.version) (first_items end before now)
+first_fit : (end : End) (before now : Past) → PastFits end before → PastFits end now → AllByRecursion (ItemFits end.version) (first_items end before now)
 first_fit end before now b n =
     all_append (ItemFits end.version) (map (λ (k : ℕ). Owed k) (owed_of end.version before) ++ due_items now) (filter_map (call_item end.side now) (waiting_of before))
     (all_append (ItemFits end.version) (map (λ (k : ℕ). Owed k) (owed_of end.version before)) (due_items now) (owed_fits end.version before) (due_fits end now n))
@@ -70,7 +70,7 @@ limit_high : (v : Version) (n : ℕ) → n ≤ 8705 → n < channel_limit v
 limit_high One n h = omega (arith, h)
 limit_high Two n h = omega (arith, h)
 
-low_index : (end : End) (past : Past) → IsRun end past → Fits end past → free_index past < channel_limit end.version
+low_index : (end : End) (past : Past) → IsRun end past → PastFits end past → free_index past < channel_limit end.version
 low_index end past run f = limit_high end.version (free_index past) (free_below end past 8192 refl f (spans_fit end past run).sum)
 
 actors_fit : (end : End) (start : ℕ) (p : Packing) (actors : List Seen) → AllByRecursion (SeenNow p.past) actors → PacksOn end (IsRun end) p [] → PackingFits end start p → AllByRecursion SeenFits actors → PackingFits end start (fold (after_actor end) p actors)
@@ -83,19 +83,19 @@ actors_fit end start p (seen ∷ actors) now packs h s =
 
 -- ---- the tick
 
-pub tick_fits : (end : End) (past : Past) (sight : List Seen) → IsDone (IsRun end) past → AllByRecursion SeenFits sight → Fits end past → Fits end (after_tick end past sight)
+pub tick_fits : (end : End) (past : Past) (sight : List Seen) → IsDone (IsRun end) past → AllByRecursion SeenFits sight → PastFits end past → PastFits end (after_tick end past sight)
 tick_fits end past sight done seen f = elim (cases_Bool (has_ended past)) [
   | inl e ↦ rw e f
   | inr e ↦ rw e (ticked e)
 ]
   where
-    ticked : has_ended past ≡ false → Fits end (after_packing end past (packing_of end past (after_closes (Ticked (tick_count past + 1) sight ∷ past))))
+    ticked : has_ended past ≡ false → PastFits end (after_packing end past (packing_of end past (after_closes (Ticked (tick_count past + 1) sight ∷ past))))
     ticked e =
         let begin : Past = Ticked (tick_count past + 1) sight ∷ past in
         let begun : IsTicking end (IsRun end) past begin = record { run = does (Ticks sight) done.run e tt; alive = e; in_tick = refl; taken = refl; told = refl; unresolved = refl; waits = refl } in
         let now : Past = after_closes begin in
         let closed : IsTicking end (IsRun end) past now = closes_tick end (IsRun end) (runs_go end) past begin (opened_actors begin) begun in
-        let now_fits : Fits end now = closes_fit end begin (opened_actors begin) (seen, f) in
+        let now_fits : PastFits end now = closes_fit end begin (opened_actors begin) (seen, f) in
         let empty : Packing = record { past = now; packets = []; full = false } in
         let start : ℕ = start_length end now in
         let first : PackingFits end start (fold (after_offer end) empty (first_items end past now)) =
@@ -110,8 +110,8 @@ tick_fits end past sight done seen f = elim (cases_Bool (has_ended past)) [
         let ready : SentFits end start packing.past = record { fits = packed.fits; start_is = packed.start_is; high = (fates_fit end packing.past all.run).high } in
         stalled (fold after_sending packing.past (packets_to_send end past packing)) (all_fit end start packing.past (packets_to_send end past packing) ready (to_send_fit end start past packing packed)).fits
       where
-        stalled : (later : Past) → Fits end later → Fits end (after_stall later)
-        stalled later h = cond_both (nat_le 4096 (unresolved_count later)) (Ended ByStall ∷ later) later (Fits end) (λ t. (tt, h)) (λ t. h)
+        stalled : (later : Past) → PastFits end later → PastFits end (after_stall later)
+        stalled later h = cond_both (nat_le 4096 (unresolved_count later)) (Ended ByStall ∷ later) later (PastFits end) (λ t. (tt, h)) (λ t. h)
 
 -- ---- a call
 
@@ -157,20 +157,20 @@ loose_short side past a n args call know e loose =
     let short : length_of (Calls a n call args) ≤ 49 + 6900 = subst (λ (r : Bool). length_of (Calls a n call args) ≤ 49 + args_limit r) loose bits in
     omega (arith, short)
 
-queued_fits : (end : End) (side : Side) (past : Past) (a n : ℕ) (args : List Arg) → Fits end past → CallsKnow side past → (o : Option ℕ) → call_channel side past a ≡ o → (c : Option Call) → call_of side past a n args ≡ c → Fits end (queued_for past a n args o c)
+queued_fits : (end : End) (side : Side) (past : Past) (a n : ℕ) (args : List Arg) → PastFits end past → CallsKnow side past → (o : Option ℕ) → call_channel side past a ≡ o → (c : Option Call) → call_of side past a n args ≡ c → PastFits end (queued_for past a n args o c)
 queued_fits end side past a n args f know None q c e = f
 queued_fits end side past a n args f know (Some ch) q None e = f
 queued_fits end side past a n args f know (Some ch) q (Some call) e =
-    cond_both call.reliable (after_making past ch (Calls a n call args)) (Waits (Calls a n call args) ∷ past) (Fits end)
+    cond_both call.reliable (after_making past ch (Calls a n call args)) (Waits (Calls a n call args) ∷ past) (PastFits end)
     (λ r. fits_made end past ch (Calls a n call args) f (call_fits end side past a ch f q) tt (call_short side past a n args call know e))
     (λ r. (loose_short side past a n args call know e r, f))
 
-answer_fits : (end : End) (past : Past) (a n : ℕ) (args : List Arg) → Fits end past → CallsKnow end.side past → (answer : CallAnswer) → Fits end (after_answer end.side past a n args answer)
+answer_fits : (end : End) (past : Past) (a n : ℕ) (args : List Arg) → PastFits end past → CallsKnow end.side past → (answer : CallAnswer) → PastFits end (after_answer end.side past a n args answer)
 answer_fits end past a n args f know Queued = queued_fits end end.side past a n args f know (call_channel end.side past a) refl (call_of end.side past a n args) refl
 answer_fits end past a n args f know Dead = f
 answer_fits end past a n args f know NotOpen = f
 answer_fits end past a n args f know NotOwner = f
 answer_fits end past a n args f know WindowFull = f
 
-pub event_call_fits : (end : End) (past : Past) (a n : ℕ) (args : List Arg) → Fits end past → CallsKnow end.side past → Fits end (after_call end.side past a n args)
+pub event_call_fits : (end : End) (past : Past) (a n : ℕ) (args : List Arg) → PastFits end past → CallsKnow end.side past → PastFits end (after_call end.side past a n args)
 event_call_fits end past a n args f know = answer_fits end past a n args f know (answer_of end.side past a n args)

@@ -4,6 +4,12 @@ use Rattle.std.specs.Prelude.{◌≡◌, ℕ, ◌+◌, ◌<◌, ◌≤◌, List,
 use Rattle.std.specs.List.{AllByRecursion}
 use Rattle.protocol_model.specs.Value.{Segment, Class}
 use Rattle.protocol_model.specs.Payload.{Message, Opens, Closes, Updates, Calls, Gone, parts_of}
+use Rattle.protocol_model.specs.Side.{AtServer, AtClient}
+use Rattle.protocol_model.specs.World.{class_of}
+use Rattle.script_model.specs.Lines.{Line}
+use Rattle.replication_model.specs.Story.{Player, story_of, past_at}
+use Rattle.table_model.specs.Rules.{Entry, segments_of}
+use Rattle.table_model.specs.Grammar.{table_of}
 use Rattle.connection_model.specs.Feed.{Past, Delivered}
 use Rattle.connection_model.specs.State.{Mark, was_opened}
 use Rattle.connection_model.specs.Copies.{delivered_of, copy_class, copy_channel, has_copy, actor_opened}
@@ -27,11 +33,11 @@ pub record HandsOn (from to : Past) (ch : ℕ) : Type 0 where
   pub same : map (λ (d : Delivered). d.message) (handed_reliably to ch)
       ≡ map (λ (x : Numbered). x.1) done
 
--- on every index
+-- so on every index
 abbrev pub HandsOnAll : (from to : Past) → Type 0
 HandsOnAll from to = (ch : ℕ) → HandsOn from to ch
 
--- they are all that was received whole
+-- what was handed on is all that was received whole
 abbrev pub HandsOnWhole : (from to : Past) → HandsOnAll from to → Type 0
 HandsOnWhole from to hands = (ch : ℕ) → wholes_of to ch ≡ map (payload_of ch) (hands ch).done
 
@@ -43,7 +49,8 @@ IsDone from to hands mark = mark.number ≤ parts_in (hands mark.channel).done
 abbrev pub IsAhead : (from to : Past) → HandsOnAll from to → Mark → Type 0
 IsAhead from to hands mark = parts_in (hands mark.channel).done < mark.number
 
--- a copy of the actor on the channel, one that sleeps, or none
+-- the copy that a mark leaves, with this message on this channel: one on the channel after an open, one
+-- that sleeps or none after a close, and none else
 abbrev pub CopyAfter : Past → (actor : ℕ) → (channel : ℕ) → Message → Type 0
 CopyAfter past a ch (Opens exports actor class values) = (has_copy past a ≡ true)
     × (copy_channel past a ≡ Some ch)
@@ -55,13 +62,13 @@ CopyAfter past a ch (Calls actor number call args) = (has_copy past a ≡ false)
     × (copy_channel past a ≡ None)
 CopyAfter past a ch (Gone actor) = (has_copy past a ≡ false) × (copy_channel past a ≡ None)
 
--- the copy is the one that the newest of these marks leaves
+-- the actor's copy is the one that the newest of these marks leaves; none where there is no mark
 abbrev pub CopyBy : Past → (actor : ℕ) → List Mark → Type 0
 CopyBy past a [] = (has_copy past a ≡ false) × (copy_channel past a ≡ None)
 CopyBy past a (mark ∷ marks) = CopyAfter past a mark.channel mark.message
 
--- of the actor's marks the older were handed on, whatever their channels, and the copy is what they
--- leave
+-- of the actor's marks the older ones were handed on, whatever their channels, the newer ones not yet,
+-- and the copy is what the older ones leave
 pub record MarksFollow (from to : Past) (hands : HandsOnAll from to) (a : ℕ) : Type 0 where
   pub newer : List Mark
   pub older : List Mark
@@ -70,9 +77,10 @@ pub record MarksFollow (from to : Past) (hands : HandsOnAll from to) (a : ℕ) :
   pub done : AllByRecursion (IsDone from to hands) older
   pub copy : CopyBy to a older
 
--- the client follows the server, where the actors have these classes and the table these segments:
--- copies on channels are those of the channels' users, a copy is of its actor's class, the server
--- opened its actor, and what opens exported are segments of the table
+-- the client follows the server, where actors have these classes and the table these segments: on each
+-- index a prefix of the messages made was handed on, each as it was made; copies on channels are those
+-- of the channels' users; an actor's copy is what its marks so far leave; a copy is of its actor's
+-- class, and the server opened the actor; and what opens exported are segments of the table
 pub record Follows (segments : List Segment) (classes : ℕ → Class)
     (server client : Past) : Type 0 where
   pub hands : HandsOnAll server client
@@ -88,3 +96,10 @@ pub record FollowsWhole (segments : List Segment) (classes : ℕ → Class)
     (server client : Past) : Type 0 where
   pub follows : Follows segments classes server client
   pub whole : HandsOnWhole server client follows.hands
+
+-- the player's client follows its server, after these lines over the table of these entries
+abbrev pub PlayerFollows : List Entry → List Line → Player → Type 0
+PlayerFollows entries lines p =
+    FollowsWhole (segments_of entries)
+    (class_of (table_of entries) (story_of (table_of entries) lines).0.edits)
+    (past_at (table_of entries) AtServer p) (past_at (table_of entries) AtClient p)

@@ -1,4 +1,4 @@
--- Unreliable calls that an end left waiting, and those that it sent.
+-- Unreliable calls: those that were queued at an end, those that it sent, those handed over to it.
 use Rattle.std.specs.Prelude.{◌≤◌, Bool, List, [], ◌∷◌, ◌++◌, reverse, true, false, Option, None, filter_map}
 use Rattle.std.specs.List.{flat_map, count_by}
 use Rattle.protocol_model.specs.Side.{Side}
@@ -46,13 +46,13 @@ HandsOverAtMost table p =
     (side : Side) (test : Asked → Bool) → count_by test (loosely_handed (past_at table side p))
     ≤ count_by test (loosely_queued (past_at table (other_side side) p))
 
--- the items are among the others, and no two of them are one
+-- the items are among the others, as often as they stand there at most
 pub data AreAmong {A : Type 0} : List A → List A → Type 0 where
   none : {others : List A} → AreAmong [] others
   one_more : (before after : List A) {x : A} {items : List A} → AreAmong items (before ++ after)
       → AreAmong (x ∷ items) (before ++ x ∷ after)
 
--- an unreliable call is handed over at most once
+-- each unreliable call that is handed over was queued at the other end, and is handed over once
 abbrev pub HandsOverOnce : Table → Player → Type 0
 HandsOverOnce table p =
     (side : Side)

@@ -9,12 +9,12 @@ use Rattle.connection_model.specs.Feed.{Past, Deed, Event, Tick, Got, Call, tick
 abbrev pub sight_in : Deed → Option (List Seen)
 sight_in deed = option_map (λ (tick : ℕ × List Seen). tick.1) (tick_in deed)
 
--- each tick's sight, the newest first
+-- the sights of a past's ticks, the newest first
 abbrev pub sights_of : Past → List (List Seen)
 sights_of past = filter_map sight_in past
 
--- the sights were the player's of worlds one after another, the newest first, with these edits at
--- last
+-- the sights, the newest first, were the player's in worlds one after another, the last of which had at
+-- most these edits
 abbrev pub Seeing : Table → (player : ℕ) → Edits → List (List Seen) → Type 0
 Seeing table player edits [] = Unit {0}
 Seeing table player edits (s ∷ sights) =

@@ -1,4 +1,4 @@
--- A client that was handed on a beginning of a channel's messages, each as it was made.
+-- A client that was handed on a prefix of a channel's messages, each as it was made.
 use Rattle.protocol_model.specs.Payload.{Message, actor_of}
 use Rattle.connection_model.specs.Bunches.{is_opening}
 use Rattle.connection_model.specs.Copies.{copy_channel}
@@ -8,7 +8,7 @@ use Rattle.connection_model.specs.Feed.{Past, Delivered}
 use Rattle.replication_model.specs.Headline.{IsPrefix}
 use Rattle.connection_laws.specs.Delivered.{Numbered, messages_on, handed_reliably}
 
--- of the messages made on the channel these were handed on, and this one comes next
+-- of the messages made on the channel these were handed on, the oldest first, and this one comes next
 pub record ComesNext (server client : Past) (channel : ℕ) (done : List Numbered)
     (made : Numbered) : Type 0 where
   pub later : List Numbered
@@ -16,8 +16,7 @@ pub record ComesNext (server client : Past) (channel : ℕ) (done : List Numbere
   pub same : map (λ (d : Delivered). d.message) (handed_reliably client channel)
       ≡ map (λ (x : Numbered). x.1) done
 
--- on each channel, the messages that were handed on are the first that were made there, each as it
--- was made
+-- on each channel, the messages that were handed on are a prefix of those made there
 abbrev pub HandsSame : (from to : Past) → Type 0
 HandsSame from to =
     (ch : ℕ) → IsPrefix (map (λ (d : Delivered). d.message) (handed_reliably to ch))

@@ -1,5 +1,5 @@
--- Messages that were received whole.
-use Rattle.std.specs.Prelude.{◌≡◌, ℕ, ◌+◌, ◌<◌, ◌≤◌, List, ◌∷◌, ◌++◌, map, reverse, Bool, true, Some, filter_map}
+-- Messages whose bunches have arrived, and messages that the other end received whole.
+use Rattle.std.specs.Prelude.{◌≡◌, ℕ, ◌+◌, ◌<◌, ◌≤◌, List, ◌∷◌, ◌++◌, map, reverse, Bool, true, Some}
 use Rattle.std.specs.List.{AllByRecursion}
 use Rattle.protocol_model.specs.Packet.{Bunch}
 use Rattle.protocol_model.specs.Payload.{parts_of}
@@ -8,11 +8,7 @@ use Rattle.connection_model.specs.Bunches.{has_arrived, is_opening}
 use Rattle.connection_model.specs.Windows.{wholes_of}
 use Rattle.connection_model.specs.Exports.{exports_segment}
 use Rattle.connection_model.specs.State.{Mark, last_mark}
-use Rattle.connection_laws.specs.Delivered.{Numbered, numbered_in, payload_of}
-
--- the messages made on an index, the newest first
-abbrev pub on_index : ℕ → Past → List Numbered
-on_index ch past = filter_map (numbered_in ch) past
+use Rattle.connection_laws.specs.Delivered.{Numbered, on_index, payload_of}
 
 -- all bunches of the index below this number have arrived
 abbrev pub ArrivedBelow : Past → (ch n : ℕ) → Type 0
@@ -31,19 +27,19 @@ pub record MadeAt (past : Past) (ch : ℕ) (made : Numbered) : Type 0 where
   pub older : List Numbered
   pub split : on_index ch past ≡ newer ++ made ∷ older
 
--- it was received whole, and so was all before it: these payloads, the oldest first, and then some
--- more
+-- the message was received whole at the other end, and so was all before it on its index: the whole
+-- payloads there begin with theirs, the oldest first
 pub record IsReceived (from to : Past) (ch : ℕ) (made : Numbered) : Type 0 where
   pub at : MadeAt from ch made
   pub rest : List (Bunch × List Bool)
   pub whole : wholes_of to ch ≡ map (payload_of ch) (reverse (made ∷ at.older)) ++ rest
 
--- what has arrived with all its parts, and all before it, was received whole
+-- a message whose parts have all arrived, with all before it on its index, was received whole
 abbrev pub ArrivesWhole : (from to : Past) → Type 0
 ArrivesWhole from to = (ch : ℕ) (made : Numbered) → MadeAt from ch made
     → ArrivedBelow from ch (made.0 + parts_of made.1) → IsReceived from to ch made
 
--- an open that exports the segment was received whole
+-- a message that exports the segment was received whole
 pub record ExportReceived (from to : Past) (guid : ℕ) : Type 0 where
   pub channel : ℕ
   pub made : Numbered

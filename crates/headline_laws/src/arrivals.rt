@@ -1,7 +1,7 @@
 // What an end knows to have arrived was received whole at the other.
 //
 // These laws tie what a server takes for true of its client (which segments it knows, which actors
-// are opened there or closed) to what the client received.
+// are opened there or closed) to what the client received. Most are of two linked ends.
 ghost use Rattle.std.specs.Prelude.{◌≡◌, ℕ, Bool, true, Some};
 ghost use Rattle.protocol_model.specs.Payload.{Closes};
 ghost use Rattle.connection_model.specs.Feed.{End, Past};
@@ -9,12 +9,10 @@ ghost use Rattle.connection_model.specs.Bunches.{have_arrived};
 ghost use Rattle.connection_model.specs.Exports.{is_known};
 ghost use Rattle.connection_model.specs.State.{Mark, last_mark, state_of, is_opened};
 ghost use Rattle.connection_laws.specs.Run.{IsRun};
-ghost use Rattle.connection_laws.specs.Link.{IsLink};
+ghost use Rattle.connection_laws.specs.Link.{IsLink, BothWays};
 ghost use Rattle.headline_laws.specs.Whole.{OpensClear, ArrivesWhole, ExportReceived, MarkReceived, IsReceived};
 ghost use Rattle.headline_laws.specs.Marks.{ClosesArrived, ClosesReceived, MarksFit, marks_of};
-ghost use Rattle.headline_laws.specs.Position.{Position};
-ghost use Rattle.connection_model.specs.Windows.{applied_of, received_on};
-ghost use Rattle.connection_laws.specs.Delivered.{messages_on};
+ghost use Rattle.headline_laws.specs.Position.{PartsInPlace};
 
 /// When an open is made, all before it on its index has arrived.
 pub fn opens_are_clear()
@@ -24,20 +22,18 @@ pub fn opens_are_clear()
 /// A message whose bunches have arrived, with all before it on its index, was received whole at the
 /// other end.
 pub fn what_arrived_was_received()
-    ensures there { (left right : End) (l r : Past) → left.version ≡ right.version
-        → IsLink left right l r → ArrivesWhole l r }
-    ensures back { (left right : End) (l r : Past) → left.version ≡ right.version
-        → IsLink left right l r → ArrivesWhole r l }
+    ensures { (left right : End) (l r : Past) → left.version ≡ right.version
+        → IsLink left right l r → BothWays ArrivesWhole l r }
 {}
 
-/// Where a server takes a segment for known, the client received an open whole that exports it.
+/// Where an end takes a segment for known, the other received an open whole that exports it.
 pub fn known_was_received()
     ensures { (left right : End) (l r : Past) (guid : ℕ) → left.version ≡ right.version
         → IsLink left right l r → is_known l guid ≡ true → ExportReceived l r guid }
 {}
 
-/// Where an actor is opened, the client received its open whole; where its close has ended, the
-/// client received that.
+/// Where an actor is opened, the other end received its open whole; where its close has arrived
+/// with all before it, the other end received that.
 pub fn marks_were_received()
     ensures opened { (left right : End) (l r : Past) (actor : ℕ) → left.version ≡ right.version
         → IsLink left right l r → is_opened (state_of l actor) ≡ true → MarkReceived l r actor }
@@ -49,7 +45,7 @@ pub fn marks_were_received()
 {}
 
 /// An actor is opened again, or gone, only after its close had arrived: each close of it but the
-/// last mark was received whole at the client.
+/// last mark was received whole at the other end.
 pub fn closes_were_received()
     ensures arrived { (end : End) (past : Past) (actor : ℕ) → IsRun end past
         → ClosesArrived past actor }
@@ -60,10 +56,8 @@ pub fn closes_were_received()
 /// What an end applied on an index is whole messages and then some parts of the next one, and these
 /// are kept.
 pub fn parts_are_in_place()
-    ensures there { (left right : End) (l r : Past) (ch : ℕ) → left.version ≡ right.version
-        → IsLink left right l r → Position ch (messages_on l ch) (applied_of (received_on r ch)) }
-    ensures back { (left right : End) (l r : Past) (ch : ℕ) → left.version ≡ right.version
-        → IsLink left right l r → Position ch (messages_on r ch) (applied_of (received_on l ch)) }
+    ensures { (left right : End) (l r : Past) → left.version ≡ right.version
+        → IsLink left right l r → BothWays PartsInPlace l r }
 {}
 
 /// An actor's opens and closes come in pairs, each close right after the open on the same index.

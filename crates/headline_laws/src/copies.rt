@@ -7,15 +7,15 @@ ghost use Rattle.std.specs.Prelude.{◌≡◌, ◌==◌, ℕ, List, [], reverse,
 ghost use Rattle.protocol_model.specs.Side.{AtServer, AtClient};
 ghost use Rattle.connection_model.specs.Feed.{End, Past, Delivered};
 ghost use Rattle.connection_model.specs.Bunches.{made_bunch};
+ghost use Rattle.connection_model.specs.Copies.{copy_on};
 ghost use Rattle.connection_model.specs.Verdict.{lacks_copy};
 ghost use Rattle.connection_laws.specs.Run.{IsRun};
 ghost use Rattle.connection_laws.specs.Delivered.{Numbered};
-ghost use Rattle.connection_laws.specs.InTurn.{user_of, Fits};
-ghost use Rattle.payload_laws.specs.Passing.{is_gone};
-ghost use Rattle.headline_laws.specs.Turns.{ComesNext, FindsNoChannel};
-ghost use Rattle.connection_model.specs.Copies.{copy_on};
+ghost use Rattle.connection_laws.specs.InTurn.{user_of, FitsUse};
 ghost use Rattle.payload_laws.specs.Applied.{Applied};
+ghost use Rattle.payload_laws.specs.Passing.{is_gone};
 ghost use Rattle.headline_laws.specs.Agree.{user_at, CopiesAgree, ComesInTurn};
+ghost use Rattle.headline_laws.specs.Turns.{ComesNext, FindsNoChannel};
 
 /// Copies and users agree at first, and still do after each payload that comes in turn.
 pub fn copies_agree()
@@ -36,11 +36,10 @@ pub fn next_message_has_its_copy()
     ensures user { (end : End) (server client : Past) (ch : ℕ) (done : List Numbered)
         (made : Numbered) → end.side ≡ AtServer → IsRun end server
         → ComesNext server client ch done made
-        → (user_at client ch ≡ user_of (reverse done)) × Fits (reverse done) made.1 }
+        → (user_at client ch ≡ user_of (reverse done)) × FitsUse (reverse done) made.1 }
     ensures copy { (end : End) (server client : Past) (ch : ℕ) (done : List Numbered)
-        (made : Numbered) → end.side ≡ AtServer → IsRun end server → CopiesAgree client →
-        (ch == 0) ≡ is_gone made.1
-        → ComesNext server client ch done made
+        (made : Numbered) → end.side ≡ AtServer → IsRun end server → CopiesAgree client
+        → (ch == 0) ≡ is_gone made.1 → ComesNext server client ch done made
         → lacks_copy AtClient client [] (made_bunch ch made.0 made.1 0) ≡ false }
 {}
 
@@ -49,6 +48,6 @@ pub fn next_message_comes_in_turn()
     ensures { (end : End) (server client : Past) (ch : ℕ) (done : List Numbered) (made : Numbered)
         (d : Delivered) → end.side ≡ AtServer → IsRun end server
         → ComesNext server client ch done made
-        → d.channel ≡ ch → d.reliable ≡ true → d.message ≡ made.1 → FindsNoChannel client made.1
-        → ComesInTurn client d d.message }
+        → d.channel ≡ ch → d.reliable ≡ true → d.message ≡ made.1
+        → FindsNoChannel client made.1 → ComesInTurn client d d.message }
 {}

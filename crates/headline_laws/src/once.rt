@@ -4,14 +4,13 @@ ghost use Rattle.std.specs.List.{count_by};
 ghost use Rattle.script_model.specs.Lines.{Line};
 ghost use Rattle.connection_model.specs.Feed.{End, Event};
 ghost use Rattle.connection_model.specs.Handed.{Asked};
-ghost use Rattle.replication_model.specs.Headline.{HasJoined, IsHonest};
 ghost use Rattle.connection_model.specs.Past.{past_of};
-ghost use Rattle.replication_model.specs.Story.{Player, story_of};
-ghost use Rattle.table_model.specs.Facts.{IsTable};
+ghost use Rattle.replication_model.specs.Story.{Player};
 ghost use Rattle.table_model.specs.Rules.{Entry};
 ghost use Rattle.table_model.specs.Grammar.{table_of};
-ghost use Rattle.payload_laws.specs.Accepted.{AreAccepted};
+ghost use Rattle.connection_laws.specs.Honest.{IsHonestPlayer};
 ghost use Rattle.headline_laws.specs.Once.{loosely_queued, loosely_sent, HandsOverAtMost, HandsOverOnce};
+ghost use Rattle.headline_laws.specs.Players.{ArePlayable};
 
 /// Of the unreliable calls that pass any test an end sends no more than were queued, whatever it
 /// hears, forged datagrams too.
@@ -21,15 +20,13 @@ pub fn unreliable_calls_are_sent_once()
         ≤ count_by test (loosely_queued (past_of end feed)) }
 {}
 
-/// Where nothing was forged an unreliable call is handed over at most once, in both directions:
-/// those handed over are among those queued, and no two of them are one.
+/// Where nothing was forged an unreliable call is handed over once at most, in both directions: no
+/// more pass any test than were queued, and those handed over are among those queued.
 pub fn unreliable_calls_come_once()
-    ensures counts { (entries : List Entry) (lines : List Line) (p : Player) → IsTable entries
-        → AreAccepted (table_of entries) (story_of (table_of entries) lines).0.edits
-        → HasJoined (story_of (table_of entries) lines).0 p → IsHonest lines p.number
+    ensures counts { (entries : List Entry) (lines : List Line) (p : Player)
+        → ArePlayable entries lines → IsHonestPlayer (table_of entries) lines p
         → HandsOverAtMost (table_of entries) p }
-    ensures once { (entries : List Entry) (lines : List Line) (p : Player) → IsTable entries
-        → AreAccepted (table_of entries) (story_of (table_of entries) lines).0.edits
-        → HasJoined (story_of (table_of entries) lines).0 p → IsHonest lines p.number
+    ensures once { (entries : List Entry) (lines : List Line) (p : Player)
+        → ArePlayable entries lines → IsHonestPlayer (table_of entries) lines p
         → HandsOverOnce (table_of entries) p }
 {}

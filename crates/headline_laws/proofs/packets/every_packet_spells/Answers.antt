@@ -1,4 +1,4 @@
-use Rattle.headline_laws.proofs.Spelled.{end_fits, packets_spell, packets_read}
+use Rattle.headline_laws.proofs.PacketsSpelled.{end_fits, packets_spell, packets_read}
 use Rattle.connection_model.specs.Past.{past_of}
 use Rattle.headline_laws.proofs.packets.every_packet_spells.Goals as goal
 
