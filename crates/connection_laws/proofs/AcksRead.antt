@@ -15,10 +15,11 @@ use Rattle.connection_model.specs.Fates.{taken_of, top_of, moved_of, high_of, la
 use Rattle.connection_laws.specs.Run.{owed_by, acknowledged_of, MaySendAll, Ascends, Acknowledges}
 use Rattle.connection_laws.specs.Deeds.{DeedsFit}
 use Rattle.connection_laws.specs.Link.{Said, SaysHead, SaysItem, entry_said, all_said, said_by, done_of}
-use Rattle.connection_laws.proofs.Searches.{among_cons, among_here, among_append, among_right, among_most, greatest_of-cons, greatest_below}
+use Rattle.connection_laws.proofs.Searches.{among_cons, among_here, among_append, among_right, among_most, greatest_below}
 use Rattle.connection_laws.proofs.PacketsSay.{IsIn, in_middle}
-use Rattle.connection_laws.proofs.AcksTaken.{ack_in, acks_by, acks_said, acks_told, acks_ascend, acks_order, no_acks, ascends_middle, ascends_more, tops_rise, HeadFacts, head_facts, history_names}
+use Rattle.connection_laws.proofs.AcksTaken.{ack_in, acks_by, acks_said, acks_told, acks_ascend, acks_order, no_acks, ascends_middle, ascends_above, tops_rise, HeadFacts, head_facts, history_names}
 use Rattle.connection_laws.proofs.NearNumber.{near_number}
+use Rattle.protocol_laws.proofs.Greatest.{greatest_of-cons}
 
 -- what is still to be heard of the packet under way
 abbrev pub left_of : Version → (me other : Past) → List ℕ
@@ -131,7 +132,7 @@ fresh_sends One end one me other items may old high f = record {
     below = greatest_below (moved_of me) (greatest_of (acknowledged_of other)) (λ n e. among_most (acknowledged_of other) n (f.known n e))
 
     by : (k x : ℕ) (b : Bool) → (last_sent other + 1 == k) ≡ b → top_of me < k → is_among x (filter_map ack_in (cond b (all_said One other items) (said_by One other k))) ≡ true → high_of me < x
-    by k x true e lt h = (let q : greatest_of (acknowledged_of other) < x = ascends_more (greatest_of (acknowledged_of other)) (owed_by items) x ascends (ap (is_among x) (sym (acks_said One other items)) ∙ h) in omega (arith, below))
+    by k x true e lt h = (let q : greatest_of (acknowledged_of other) < x = ascends_above (greatest_of (acknowledged_of other)) (owed_by items) x ascends (ap (is_among x) (sym (acks_said One other items)) ∙ h) in omega (arith, below))
     by k x false e lt h = f.later k x lt h
 fresh_sends Two end two me other items may old high f = record {
   later = λ k lt le. by k (last_sent other + 1 == k) refl lt le;
@@ -284,7 +285,7 @@ module _ (end : End) (one : end.version ≡ One) (other : Past) (fit : DeedsFit 
               let q : n < x = acks_order end one One other fit k j n x before_j said h in
               omega (arith, high));
           now = λ x h. (
-              let q : n < x = ascends_more n (filter_map ack_in rest) x (ascends_middle 0 (filter_map ack_in before) n (filter_map ack_in rest) (subst (Ascends 0) acks (acks_ascend end one One other fit k)))
+              let q : n < x = ascends_above n (filter_map ack_in rest) x (ascends_middle 0 (filter_map ack_in before) n (filter_map ack_in rest) (subst (Ascends 0) acks (acks_ascend end one One other fit k)))
               (ap (λ (s : List Said). is_among x (filter_map ack_in s)) (sym left.1) ∙ h) in
               omega (arith, high));
         };

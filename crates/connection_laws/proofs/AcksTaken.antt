@@ -17,10 +17,12 @@ use Rattle.connection_model.specs.Verdict.{with_told, with_handed}
 use Rattle.connection_laws.specs.Run.{owed_by, owed_in, acknowledged_of, Ascends, Acknowledges}
 use Rattle.connection_laws.specs.Deeds.{DeedsFit}
 use Rattle.connection_laws.specs.Link.{Said, SaysHead, SaysItem, all_said, said_by, done_of}
-use Rattle.connection_laws.proofs.Searches.{greatest_of-cons, among_cons, among_there, among_left, among_right, among_most}
+use Rattle.connection_laws.proofs.Searches.{among_cons, among_there, among_left, among_right, among_most}
 use Rattle.connection_laws.proofs.Moves.{making_keeps}
 use Rattle.connection_laws.proofs.Spans.{some_parts}
 use Rattle.connection_laws.proofs.PacketsSay.{IsIn, in_either, said_sent}
+use Rattle.protocol_laws.proofs.Reading.{digits-number_of}
+use Rattle.protocol_laws.proofs.Greatest.{greatest_of-cons}
 
 -- ---- what was heard to its end was taken
 
@@ -99,7 +101,7 @@ acks_told v (Sent number t items ∷ past) x k h = by (number == k) h (λ q. ack
     by true h ih = among_left (owed_by items) (acknowledged_of past) x (ap (is_among x) (sym (acks_said v past items)) ∙ h)
     by false h ih = among_right (owed_by items) (acknowledged_of past) x (ih h)
 
-ascends_above : (low : ℕ) (ns : List ℕ) (x : ℕ) → Ascends low ns → is_among x ns ≡ true → low < x
+pub ascends_above : (low : ℕ) (ns : List ℕ) (x : ℕ) → Ascends low ns → is_among x ns ≡ true → low < x
 ascends_above low [] x h e = absurd (false≢true e)
 ascends_above low (n ∷ ns) x h e = elim (among_cons n ns x e) [ inl q ↦ omega (arith, h.0) | inr q ↦ (let l : n < x = ascends_above n ns x h.1 q in omega (arith, h.0)) ]
 
@@ -110,9 +112,6 @@ ascends_lower low (n ∷ ns) h = (omega (arith, h.0), h.1)
 pub ascends_middle : (low : ℕ) (xs : List ℕ) (x : ℕ) (ys : List ℕ) → Ascends low (xs ++ x ∷ ys) → Ascends x ys
 ascends_middle low [] x ys h = h.1
 ascends_middle low (z ∷ xs) x ys h = ascends_middle z xs x ys h.1
-
-pub ascends_more : (low : ℕ) (ns : List ℕ) (x : ℕ) → Ascends low ns → is_among x ns ≡ true → low < x
-ascends_more low ns x h e = ascends_above low ns x h e
 
 -- in each packet they ascend
 pub acks_ascend : (end : End) → end.version ≡ One → (v : Version) (past : Past) → DeedsFit end past → (k : ℕ) → Ascends 0 (acks_by v past k)
@@ -290,18 +289,6 @@ named-append a [] ys = (let e : a -ℤ pos 0 ≡ a = omega (arith, ints) in rw e
 named-append a (true ∷ xs) ys = (let e : (a -ℤ pos 1) -ℤ pos (length xs) ≡ a -ℤ pos (suc (length xs)) = omega (arith, ints) in ap (λ (zs : List ℤ). a ∷ zs) (named-append (a -ℤ pos 1) xs ys ∙ ap (λ (z : ℤ). named_numbers (a -ℤ pos 1) xs ++ named_numbers z ys) e))
 named-append a (false ∷ xs) ys = (let e : (a -ℤ pos 1) -ℤ pos (length xs) ≡ a -ℤ pos (suc (length xs)) = omega (arith, ints) in named-append (a -ℤ pos 1) xs ys ∙ ap (λ (z : ℤ). named_numbers (a -ℤ pos 1) xs ++ named_numbers z ys) e)
 
-digits-number : (bits : List Bool) → digits (length bits) (number_of bits) ≡ bits
-unfolding digits
-digits-number [] = refl
-digits-number (true ∷ bits) =
-    let half : (1 + 2 * number_of bits) / 2 ≡ number_of bits = omega arith in
-    let low : (1 + 2 * number_of bits) % 2 ≡ 1 = omega arith in
-    rw (half, low) (ap (λ (bs : List Bool). true ∷ bs) (digits-number bits))
-digits-number (false ∷ bits) =
-    let half : (0 + 2 * number_of bits) / 2 ≡ number_of bits = omega arith in
-    let low : (0 + 2 * number_of bits) % 2 ≡ 0 = omega arith in
-    rw (half, low) (ap (λ (bs : List Bool). false ∷ bs) (digits-number bits))
-
 module _ (ts : List ℕ) (top : ℕ) (positive : is_among 0 ts ≡ false) where
   -- the numbers named in a word that begins `base` below the top
   word_names : (base i count : ℕ) (z : ℤ) → IsIn z (named_numbers (pos top -ℤ pos (base + i)) (map (λ (j : ℕ). is_among (top - base - j) ts) (range_with_len i count)))
@@ -338,7 +325,7 @@ module _ (before : Past) (positive : is_among 0 (taken_of before) ≡ false) whe
       let rest : List Bool = flat_map (λ word. fixed_bits 32 word) (map (λ w. history_word before (top_of before - 32 * w)) (range_with_len (w + 1) count)) in
       let long : length bits ≡ 32 = length-map-range_with_len (λ (j : ℕ). is_among (top_of before - 32 * w - j) (taken_of before)) 0 32 in
       let spelled : fixed_bits 32 (history_word before (top_of before - 32 * w)) ≡ bits =
-      subst (λ (k : ℕ). digits k (number_of bits) ≡ bits) long (digits-number bits) in
+      subst (λ (k : ℕ). digits k (number_of bits) ≡ bits) long (digits-number_of bits) in
       let split : IsIn z (named_numbers (pos (top_of before) -ℤ pos (32 * w)) bits ++ named_numbers ((pos (top_of before) -ℤ pos (32 * w)) -ℤ pos (length bits)) rest) =
       subst (IsIn z) (ap (λ (bs : List Bool). named_numbers (pos (top_of before) -ℤ pos (32 * w)) (bs ++ rest)) spelled ∙ named-append (pos (top_of before) -ℤ pos (32 * w)) bits rest) h in
       let next : (pos (top_of before) -ℤ pos (32 * w)) -ℤ pos (length bits) ≡ pos (top_of before) -ℤ pos (32 * (w + 1)) = omega (arith, ints, long) in

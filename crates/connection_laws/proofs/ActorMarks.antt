@@ -1,5 +1,4 @@
 -- The last open, close or Gone of an actor, and the index that it holds, after a move.
-use Rattle.connection_model.specs.State.{ActorState}
 use Rattle.std.proofs.Common.{◌≡◌, ◌⊎◌, inl, inr, ℕ, zero, suc, ◌+◌, ◌≤◌, List, [], ◌∷◌, Bool, true, false, cond, ◌==◌, ◌&&◌, ◌||◌, refl, sym, ap, ◌∙◌, subst, arith, Option, Some, None}
 use Rattle.std.specs.List.{filter_map, cons_option, list_all, list_any, slice_get, range_with_len}
 use Rattle.std.specs.Bool.{then_some}
@@ -8,7 +7,7 @@ use Rattle.protocol_model.specs.Payload.{Message, Opens, Closes, Updates, Calls,
 use Rattle.protocol_model.specs.Search.{is_among}
 use Rattle.connection_model.specs.Feed.{End, Past, Made, Entry, Delivered, has_ended}
 use Rattle.connection_model.specs.Bunches.{made_count, has_arrived, have_arrived, after_making}
-use Rattle.connection_model.specs.State.{Mark, Opening, Opened, is_mark, mark_in, last_mark, closed_as, state_after, state_at, state_of, holds_index, index_at, index_of, is_index, holds, opened_in, opened_actors, is_held}
+use Rattle.connection_model.specs.State.{ActorState, Closed, Asleep, Opening, Opened, Closing, is_open, is_opened, Mark, is_mark, mark_in, last_mark, closed_as, state_after, state_at, state_of, holds_index, index_at, index_of, is_index, holds, opened_in, opened_actors, is_held}
 use Rattle.connection_model.specs.Verdict.{with_told, with_handed}
 use Rattle.connection_model.specs.Pack.{after_sending}
 use Rattle.connection_laws.specs.Run.{Move, Ticks, Makes, Defers, Sends, Takes, Hears, Hands, Ends, after_move, May, IsRun, MayMake, HasPlace}
@@ -20,6 +19,14 @@ use Rattle.connection_laws.proofs.Arrivals.{arrival_made, arrival_sent, arrival_
 use Rattle.connection_laws.proofs.Fates.{moves_sent}
 use Rattle.connection_laws.proofs.Spans.{some_parts}
 use Rattle.connection_laws.proofs.Holding.{among_ascending}
+
+-- an opened actor is open
+pub opened_is_open : (state : ActorState) → is_opened state ≡ true → is_open state ≡ true
+opened_is_open Opened e = refl
+opened_is_open Closed e = absurd (false≢true e)
+opened_is_open Asleep e = absurd (false≢true e)
+opened_is_open Opening e = absurd (false≢true e)
+opened_is_open Closing e = absurd (false≢true e)
 
 -- ---- what has arrived, as a whole
 

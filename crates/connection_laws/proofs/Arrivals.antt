@@ -15,8 +15,9 @@ use Rattle.connection_model.specs.Bunches.{has_arrived, carrier_of, carrier_in, 
 use Rattle.connection_model.specs.Verdict.{with_told, with_handed}
 use Rattle.connection_model.specs.Pack.{after_sending}
 use Rattle.connection_laws.specs.Run.{MaySend, IsWaiting}
-use Rattle.connection_laws.proofs.Searches.{among_above, among_cons, among_right, greatest_below, newest_hit, newest_miss}
+use Rattle.connection_laws.proofs.Searches.{among_cons, among_right, greatest_below, newest_hit, newest_miss}
 use Rattle.connection_laws.proofs.Moves.{made_ignored, made_ignored_all, told_ignored, handed_ignored, handed_ignored_all, told_keeps}
+use Rattle.protocol_laws.proofs.Greatest.{among_above}
 
 -- ---- a packet has arrived if its number moved
 

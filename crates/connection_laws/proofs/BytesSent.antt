@@ -10,7 +10,7 @@ use Rattle.connection_model.specs.Past.{sent_bytes}
 use Rattle.connection_model.specs.Pack.{packet_carrying}
 use Rattle.connection_laws.specs.Deeds.{DeedsFit}
 use Rattle.connection_laws.specs.Talk.{packet_at}
-use Rattle.connection_laws.proofs.Searches.{greatest_of-cons}
+use Rattle.protocol_laws.proofs.Greatest.{greatest_of-cons}
 
 -- as many packets were sent as the last one's number says
 pub sent_count : (end : End) (past : Past) → DeedsFit end past → length (sent_bytes end past) ≡ last_sent past

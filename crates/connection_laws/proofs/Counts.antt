@@ -9,8 +9,8 @@ use Rattle.connection_model.specs.Feed.{Past, Made, Item}
 use Rattle.connection_model.specs.Fates.{last_sent, sent_in}
 use Rattle.connection_model.specs.Bunches.{made_count, made_on, after_making}
 use Rattle.connection_model.specs.Pack.{after_sending}
-use Rattle.connection_laws.proofs.Searches.{greatest_of-cons}
 use Rattle.connection_laws.proofs.Moves.{making_keeps}
+use Rattle.protocol_laws.proofs.Greatest.{greatest_of-cons}
 
 -- ---- one part
 

@@ -323,7 +323,3 @@ both_fit end s past run = always end Both (first, λ ch. tt) (brackets_step end 
 -- the messages of a server's index come one use after another
 pub brackets_fit : (end : End) → end.side ≡ AtServer → (past : Past) → IsRun end past → BracketsFit past
 brackets_fit end s past run = (both_fit end s past run).1
-
--- who uses an index has an open as its last mark there
-pub users_fit : (end : End) → end.side ≡ AtServer → (past : Past) → IsRun end past → Users past
-users_fit end s past run = (both_fit end s past run).0

@@ -38,12 +38,13 @@ use Rattle.connection_model.specs.CallAnswers.{call_channel}
 use Rattle.connection_model.specs.Pack.{after_sending, part_item}
 use Rattle.connection_laws.specs.Run.{MaySend, owed_in, Ascends, Acknowledges}
 use Rattle.connection_laws.specs.Fates.{MovesSent, CarriesMade}
-use Rattle.connection_laws.proofs.Searches.{greatest_of-cons, among_here, newest_hit, newest_miss}
+use Rattle.connection_laws.proofs.Searches.{among_here, newest_hit, newest_miss}
 use Rattle.connection_laws.proofs.Moves.{making_keeps}
 use Rattle.connection_laws.proofs.Counts.{made_count_grows, made_count_made}
 use Rattle.connection_laws.proofs.Arrivals.{arrival_made, arrival_sent}
 use Rattle.connection_laws.proofs.AcksInOrder.{taken_made}
 use Rattle.connection_laws.proofs.Spans.{unmade_unarrived}
+use Rattle.protocol_laws.proofs.Greatest.{greatest_of-cons}
 
 -- ---- all of a list
 
@@ -329,10 +330,6 @@ ascends_rest low [] ys h = (let e : max low (greatest_of []) ≡ low = omega ari
 ascends_rest low (x ∷ xs) ys h =
     let e : max low (greatest_of (x ∷ xs)) ≡ max x (greatest_of xs) = omega (arith, greatest_of-cons x xs, h.0) in
     rw e (ascends_rest x xs ys h.1)
-
-pub ascends_from : (low : ℕ) (ns : List ℕ) → Ascends 0 ns → ((n : ℕ) → is_among n ns ≡ true → low < n) → Ascends low ns
-ascends_from low [] h above = tt
-ascends_from low (n ∷ ns) h above = (above n (among_here n ns n refl), h.1)
 
 -- ---- in either version
 

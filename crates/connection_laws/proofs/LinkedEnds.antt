@@ -86,7 +86,7 @@ left_made v other past ch m =
 received_made : (past : Past) (c : ℕ) (m : Message) (ch : ℕ) → received_on (after_making past c m) ch ≡ received_on past ch
 received_made past c m ch = ap (λ (es : List Entry). received_by es ch) (made_ignored_all entries_in (λ c n m i. refl) past c m)
 
-top_when_made : (past : Past) (c : ℕ) (m : Message) (k : ℕ) → top_when (after_making past c m) k ≡ top_when past k
+pub top_when_made : (past : Past) (c : ℕ) (m : Message) (k : ℕ) → top_when (after_making past c m) k ≡ top_when past k
 top_when_made past c m k = making_keeps (λ i before. top_when before k ≡ top_when past k) past c m refl (λ i before lt e. e)
 
 -- ---- one move

@@ -12,9 +12,10 @@ use Rattle.connection_model.specs.Fates.{taken_of, taken_in, owed_of}
 use Rattle.connection_laws.specs.Run.{Move, Ticks, Makes, Defers, Sends, Takes, Hears, Hands, Ends, after_move, May, IsRun, MaySend, Ascends, Acknowledges, acknowledged_of}
 use Rattle.connection_laws.specs.Acknowledged.{AcknowledgesTaken}
 use Rattle.connection_laws.specs.Taken.{Falls}
-use Rattle.connection_laws.proofs.Searches.{among_cons, among_append, among_here, among_there, among_left, greatest_of-cons, greatest_of-append, greatest_in}
+use Rattle.connection_laws.proofs.Searches.{among_cons, among_append, among_here, among_there, among_left, greatest_in}
 use Rattle.connection_laws.proofs.Deeds.{always}
 use Rattle.connection_laws.proofs.AcksInOrder.{tells_taken, taken_made, taken_told, taken_handed}
+use Rattle.protocol_laws.proofs.Greatest.{greatest_of-append, greatest_of-cons}
 
 -- ---- the numbers taken
 

@@ -17,10 +17,11 @@ use Rattle.connection_model.specs.Pack.{after_sending}
 use Rattle.connection_laws.specs.Run.{MaySend, IsWaiting}
 use Rattle.connection_laws.specs.Deeds.{DeedsFit}
 use Rattle.connection_laws.specs.Link.{Said, SaysHead, SaysItem, all_said, said_by}
-use Rattle.connection_laws.proofs.Searches.{greatest_of-cons, newest_hit, newest_miss}
+use Rattle.connection_laws.proofs.Searches.{newest_hit, newest_miss}
 use Rattle.connection_laws.proofs.Moves.{making_keeps}
 use Rattle.connection_laws.proofs.Counts.{made_count_same, made_count_other}
 use Rattle.connection_laws.proofs.Items.{made_other}
+use Rattle.protocol_laws.proofs.Greatest.{greatest_of-cons}
 
 -- ---- items of a list
 
@@ -89,9 +90,6 @@ said_told v entry past k = refl
 pub said_handed : (v : Version) (d : Delivered) (past : Past) (k : ℕ) → said_by v (with_handed d past) k ≡ said_by v past k
 said_handed v d (Took n es ds ∷ past) k = refl
 said_handed v d past k = refl
-
-pub said_new : (v : Version) (past : Past) (items : List Item) → said_by v (after_sending past items) (last_sent past + 1) ≡ all_said v past items
-said_new v past items = ap (λ (b : Bool). cond b (all_said v past items) (said_by v past (last_sent past + 1))) (eq-eqb (last_sent past + 1) (last_sent past + 1) refl)
 
 pub said_old : (v : Version) (past : Past) (items : List Item) (k : ℕ) → k ≤ last_sent past → said_by v (after_sending past items) k ≡ said_by v past k
 said_old v past items k le = ap (λ (b : Bool). cond b (all_said v past items) (said_by v past k)) (ne_eqb (last_sent past + 1) k (λ q. absurd (omega arith)))

@@ -24,7 +24,6 @@ use Rattle.connection_laws.proofs.ActorsShown.{SeenNow, actors_seen_now}
 use Rattle.connection_model.specs.Items.{due_items, call_item, first_items, actors_by_score}
 use Rattle.connection_model.specs.Pack.{idle_ticks, is_shown, made_if_room, after_close, after_closes, Packing, after_offer, packing_of, is_silent, owes_head, packets_to_send, after_sending, after_stall, after_packing, after_tick}
 use Rattle.connection_laws.specs.Run.{Makes, Sends, MayMake, HasPlace, MaySend, owed_by, owed_in, acknowledged_of, Acknowledges}
-use Rattle.connection_laws.proofs.Searches.{greatest_of-append}
 use Rattle.connection_laws.proofs.Fates.{moves_sent}
 use Rattle.connection_laws.proofs.Counts.{last_sent_sent}
 use Rattle.connection_laws.proofs.OwedAscend.{owed_ascends, owed_taken_before, owed_may_go}
@@ -32,22 +31,17 @@ use Rattle.connection_laws.proofs.AcksInOrder.{told_made, since_made, taken_made
 use Rattle.connection_laws.proofs.Items.{all_weaker, all_append, MayGo, WaitsLoose, waits_like, may_send_sent, due_may_go, calls_may_go, told_first, told_rest, told_none}
 use Rattle.connection_laws.proofs.Packing.{packed, Packs, PacksOn, offers_past, offers_owed, offers_other, actors_pack}
 use Rattle.connection_laws.proofs.LiveRuns.{Goes, IsDone, ended_done, alive_made, unresolved_made}
+use Rattle.protocol_laws.proofs.Greatest.{greatest_of-append}
+use Rattle.protocol_laws.proofs.Lengths.{length-packed_in}
+use Rattle.connection_laws.proofs.ActorMarks.{opened_is_open}
 
 -- ---- small messages
-
-packed_short : (groups v : ℕ) → length (packed_in groups v) ≤ 8 * groups
-unfolding packed_in digits
-packed_short zero v = omega arith
-packed_short (suc groups) v = elim (cases_Bool (nat_lt v 128)) [
-  | inl e ↦ rw e (omega arith)
-  | inr e ↦ rw e (omega (arith, length-append (digits 7 v) (packed_in groups (v / 128)), packed_short groups (v / 128)))
-]
 
 gone_is_small : (a : ℕ) → parts_of (Gone a) ≡ 1
 gone_is_small a = ap (λ (b : Bool). if b then 1 else (length (message_bits (Gone a)) + 6999) / 7000) (le-leb (length (message_bits (Gone a))) 7000 short)
   where
     short : length (packed_bits 1 ++ packed_bits a) ≤ 7000
-    short = omega (arith, length-append (packed_bits 1) (packed_bits a), packed_short 5 1, packed_short 5 a)
+    short = omega (arith, length-append (packed_bits 1) (packed_bits a), length-packed_in 5 1, length-packed_in 5 a)
 
 -- a tick before its packets; `before` is the past before the tick
 pub record IsTicking (end : End) (R : Past → Type 0) (before past : Past) : Type 0 where
@@ -102,13 +96,6 @@ module _ (end : End) (R : Past → Type 0) (g : Goes end R) where
       by : (b : Bool) → (t.actor == a) ≡ b → cond b (Some t) (seen_in sight a) ≡ Some s → (seen_in sight a ≡ Some s → s.actor ≡ a) → s.actor ≡ a
       by true q e ih = ap (λ (x : Seen). x.actor) (sym (same t s e)) ∙ eqb-true t.actor a q
       by false q e ih = ih e
-
-  opened_is_open : (state : ActorState) → is_opened state ≡ true → is_open state ≡ true
-  opened_is_open Opened e = refl
-  opened_is_open Closed e = absurd (false≢true e)
-  opened_is_open Asleep e = absurd (false≢true e)
-  opened_is_open Opening e = absurd (false≢true e)
-  opened_is_open Closing e = absurd (false≢true e)
 
   settled_is_open : (past : Past) (a : ℕ) (o : Option Seen) → seen_in (sight_of past) a ≡ o → is_shown (λ s. s.dormant && is_settled_as past s) o ≡ true → is_open (state_of past a) ≡ true
   settled_is_open past a None q e = absurd (false≢true e)

@@ -23,11 +23,12 @@ use Rattle.connection_laws.proofs.LinkedEnds.{both, left_run, right_run}
 use Rattle.connection_laws.proofs.Moves.{made_ignored_all, handed_ignored_all, handed_ignored}
 use Rattle.connection_laws.proofs.Receiving.{has, MadeFacts, made_facts, seq_read, with_cases}
 use Rattle.connection_laws.proofs.PacketsSay.{IsIn, in_middle, all_at, CarriedFacts, carried_facts, loose_unreliable}
-use Rattle.connection_laws.proofs.Searches.{among_cons, among_here, among_there, among_most, greatest_of-append, greatest_of-cons}
+use Rattle.connection_laws.proofs.Searches.{among_cons, among_here, among_there, among_most}
 use Rattle.connection_laws.proofs.TalksLink.{stays_on}
 use Rattle.connection_laws.proofs.AcksInOrder.{taken_made}
 use Rattle.headline_laws.proofs.PastGrows.{SaidAt, said_at}
 use Rattle.headline_laws.proofs.PlaceByNumber.{Places, places, one, first_later, second_later}
+use Rattle.protocol_laws.proofs.Greatest.{greatest_of-append, greatest_of-cons}
 
 -- the bunch came in a packet that was taken
 pub record CameIn (v : Version) (from to : Past) (ch n : ℕ) : Type 0 where

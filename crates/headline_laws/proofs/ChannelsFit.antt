@@ -22,6 +22,7 @@ use Rattle.connection_laws.proofs.Holding.{among_ascending, room_taken, mark_use
 use Rattle.connection_laws.proofs.Spans.{unused_span}
 use Rattle.headline_laws.specs.Fits.{IsSpawned, ItemFits, PlaceFits, PastFits}
 use Rattle.headline_laws.proofs.Lengths.{BunchFits, rec_fits, made_fits, loose_fits}
+use Rattle.std.proofs.lemmas.List.{length-append}
 
 -- ---- channels used
 
@@ -253,10 +254,6 @@ spanned_among past (ch ∷ chs) n h e = elim (among_cons ch chs n h) [
     by true h = among_there ch (spanned past chs) n h
     by false h = h
 
-append_length : {A : Type 0} (xs ys : List A) → length (xs ++ ys) ≡ length xs + length ys
-append_length [] ys = omega arith
-append_length (x ∷ xs) ys = omega (arith, append_length xs ys)
-
 -- the free index is at most one above those held and those with a span
 pub free_below : (end : End) (past : Past) (most : ℕ) → most ≡ 8192 → PastFits end past → span_sum past ≤ 512 → free_index past ≤ most + 513
 free_below end past most is f sum = by (free_index past) refl
@@ -291,4 +288,4 @@ free_below end past most is f sum = by (free_index past) refl
         let all : n ≤ length (held_by past most 1 ++ spanned past (channels_of past)) =
         room_taken n (held_by past most 1 ++ spanned past (channels_of past))
         (λ i lo hi. is_taken i (least_below (λ ch. not (is_held past ch) && (span past ch == 0)) (length (channels_of past)) 1 i lo (omega (arith, e, hi)))) in
-        omega (arith, all, append_length (held_by past most 1) (spanned past (channels_of past)), few_held past most 1, few_spanned past (channels_of past), sum, e)
+        omega (arith, all, length-append (held_by past most 1) (spanned past (channels_of past)), few_held past most 1, few_spanned past (channels_of past), sum, e)

@@ -31,7 +31,7 @@ use Rattle.connection_laws.proofs.Feeds.{feed_done, feed_runs}
 use Rattle.connection_laws.proofs.LiveRuns.{IsQuiet, Goes}
 use Rattle.connection_laws.proofs.Moves.{making_keeps}
 use Rattle.connection_laws.proofs.OwedAscend.{taken_falls}
-use Rattle.connection_laws.proofs.Searches.{among_here, among_there, greatest_of-cons}
+use Rattle.connection_laws.proofs.Searches.{among_here, among_there}
 use Rattle.connection_laws.proofs.TalksLink.{Talked, talked, left_stays, right_stays}
 use Rattle.connection_laws.proofs.Ticking.{tick_runs}
 use Rattle.payload_laws.specs.Accepted.{AreAccepted}
@@ -41,6 +41,7 @@ use Rattle.headline_laws.proofs.EndsAgree.{Agreement, FeedsKnown, agree_talk, cl
 use Rattle.headline_laws.proofs.ClientHears.{loose_said, loosely}
 use Rattle.headline_laws.proofs.SentOnce.{count, count_both, count_reverse, messages_reverse, sent_once}
 use Rattle.headline_laws.proofs.PacketsSpelled.{end_fits}
+use Rattle.protocol_laws.proofs.Greatest.{greatest_of-cons}
 
 module _ (t : Asked → Bool) (v : Version) where
   -- ---- counts of what was said and handed on

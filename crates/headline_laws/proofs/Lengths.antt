@@ -25,6 +25,7 @@ use Rattle.connection_laws.proofs.Arrivals.{moved_made}
 use Rattle.connection_laws.proofs.Searches.{least_high}
 use Rattle.protocol_model.specs.Search.{greatest_of}
 use Rattle.headline_laws.specs.Fits.{ItemFits, start_length}
+use Rattle.connection_laws.proofs.LinkedEnds.{top_when_made}
 
 -- ---- a bunch
 
@@ -111,15 +112,12 @@ start_like Two past later e = omega (arith, two_start 0 (head_of Two past), two_
 words_like : (past later : Past) → top_of later ≡ top_of past → top_when later (high_of later) ≡ top_when past (high_of past) → word_count later ≡ word_count past
 words_like past later t w = rw (t, w) refl
 
-when_made : (past : Past) (ch : ℕ) (m : Message) (n : ℕ) → top_when (after_making past ch m) n ≡ top_when past n
-when_made past ch m n = making_keeps (λ i before. top_when before n ≡ top_when past n) past ch m refl (λ i before lt e. e)
-
 -- it stays when a message is made
 pub start_made : (end : End) (past : Past) (ch : ℕ) (m : Message) → start_length end (after_making past ch m) ≡ start_length end past
 start_made end past ch m =
     start_like end.version past (after_making past ch m)
     (words_like past (after_making past ch m) (ap greatest_of (taken_made past ch m))
-    (ap (top_when (after_making past ch m)) (ap greatest_of (moved_made past ch m)) ∙ when_made past ch m (high_of past)))
+    (ap (top_when (after_making past ch m)) (ap greatest_of (moved_made past ch m)) ∙ top_when_made past ch m (high_of past)))
 
 -- and when a packet is sent
 pub start_sent : (end : End) (past : Past) (items : List Item) → high_of past ≤ last_sent past → start_length end (after_sending past items) ≡ start_length end past

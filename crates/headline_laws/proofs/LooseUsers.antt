@@ -3,7 +3,7 @@ use Rattle.std.proofs.Common.{◌≡◌, inl, inr, ℕ, ◌+◌, ◌<◌, ◌≤
 use Rattle.std.specs.List.{AllByRecursion, filter_map, cons_option}
 use Rattle.std.specs.Bool.{then_some}
 use Rattle.std.proofs.lemmas.Bool.{false≢true, cases_lt, eqb-true, and_parts}
-use Rattle.std.proofs.lemmas.List.{reverse-append, reverse-reverse, length-map}
+use Rattle.std.proofs.lemmas.List.{length-append, reverse-append, reverse-reverse, length-map}
 use Rattle.protocol_model.specs.Payload.{Message, Opens, Closes, Updates, Calls, Gone, parts_of, actor_of}
 use Rattle.protocol_model.specs.Side.{AtServer}
 use Rattle.connection_model.specs.Feed.{End, Past, Ticked, Made, Waits, Sent, Took, Ended, Item, Delivered, Entry}
@@ -19,7 +19,7 @@ use Rattle.connection_laws.proofs.InTurn.{OpenMark, held_open, brackets_fit}
 use Rattle.connection_laws.proofs.Items.{all_reverse}
 use Rattle.connection_laws.proofs.LinkedEnds.{left_run}
 use Rattle.connection_laws.proofs.Receiving.{below_next, next_low}
-use Rattle.connection_laws.proofs.Searches.{among_most, greatest_of-cons}
+use Rattle.connection_laws.proofs.Searches.{among_most}
 use Rattle.connection_laws.proofs.Spans.{some_parts}
 use Rattle.headline_laws.specs.Agree.{user_at}
 use Rattle.headline_laws.specs.Follows.{parts_in, HandsOnAll, HandsOnWhole}
@@ -34,7 +34,10 @@ use Rattle.headline_laws.proofs.HandedOn.{Fall, marks_fall}
 use Rattle.headline_laws.proofs.RunPosition.{position_there}
 use Rattle.headline_laws.proofs.PlaceByNumber.{at_place, place_at, number_is, count_is, marked, all_mid}
 use Rattle.headline_laws.proofs.NextInTurn.{user_done}
-use Rattle.headline_laws.proofs.WholeMessages.{longer, applied_length, append_length, bunches_length}
+use Rattle.headline_laws.proofs.WholeMessages.{longer, applied_length, bunches_length}
+use Rattle.protocol_laws.proofs.Greatest.{greatest_of-cons}
+use Rattle.connection_laws.proofs.ActorMarks.{opened_is_open}
+use Rattle.connection_laws.proofs.StoriesTalk.{all_from}
 
 -- ---- what was received whole was handed on
 
@@ -44,7 +47,7 @@ received_done left l r run hands whole ch made rec =
     let first : List Numbered = reverse (made ∷ rec.at.older) in
     let same : map (payload_of ch) (hands ch).done ≡ map (payload_of ch) first ++ rec.rest = sym (whole ch) ∙ rec.whole in
     let long : length (reverse (made ∷ rec.at.older)) ≤ length (hands ch).done =
-    omega (arith, sym (length-map (hands ch).done (payload_of ch)) ∙ ap length same ∙ append_length (map (payload_of ch) (reverse (made ∷ rec.at.older))) rec.rest, length-map (reverse (made ∷ rec.at.older)) (payload_of ch)) in
+    omega (arith, sym (length-map (hands ch).done (payload_of ch)) ∙ ap length same ∙ length-append (map (payload_of ch) (reverse (made ∷ rec.at.older))) rec.rest, length-map (reverse (made ∷ rec.at.older)) (payload_of ch)) in
     let order : messages_on l ch ≡ reverse (made ∷ rec.at.older) ++ reverse rec.at.newer = ap reverse rec.at.split ∙ reverse-append rec.at.newer (made ∷ rec.at.older) in
     longer (hands ch).done (hands ch).later (reverse (made ∷ rec.at.older)) (reverse rec.at.newer) (sym (hands ch).split ∙ order) long
 
@@ -80,10 +83,6 @@ user_stays a (x ∷ xs) tail b u h = by x.1 refl b.0 (user_stays a xs tail b.1 u
     by (Calls c n call args) e f u = said (Calls c n call args) e refl u
     by (Gone c) e f u = said (Gone c) e refl u
 
-all_places : (P : Numbered → Type 0) (xs : List Numbered) → ((x : Numbered) (before after : List Numbered) → xs ≡ before ++ x ∷ after → P x) → AllByRecursion P xs
-all_places P [] h = tt
-all_places P (x ∷ xs) h = (h x [] xs refl, all_places P xs (λ y before after e. h y (x ∷ before) after (ap (λ l. x ∷ l) e)))
-
 -- one beginning goes on with the other
 two_fronts : (xs ys us vs : List Numbered) → xs ++ ys ≡ us ++ vs → ((es : List Numbered) × (us ≡ xs ++ es)) ⊎ ((e : Numbered) × (es : List Numbered) × (xs ≡ us ++ e ∷ es))
 two_fronts [] ys us vs e = inl (us, refl)
@@ -99,13 +98,6 @@ two_fronts (x ∷ xs) ys (u ∷ us) vs e = by (two_fronts xs ys us vs (tail x u 
     by : ((es : List Numbered) × (us ≡ xs ++ es)) ⊎ ((e : Numbered) × (es : List Numbered) × (xs ≡ us ++ e ∷ es)) → x ≡ u → ((es : List Numbered) × (u ∷ us ≡ x ∷ (xs ++ es))) ⊎ ((e : Numbered) × (es : List Numbered) × (x ∷ xs ≡ u ∷ (us ++ e ∷ es)))
     by (inl r) q = inl (r.0, ap (λ (l : List Numbered). u ∷ l) r.1 ∙ ap (λ (y : Numbered). y ∷ (xs ++ r.0)) (sym q))
     by (inr r) q = inr (r.0, r.1, ap (λ (l : List Numbered). x ∷ l) r.2 ∙ ap (λ (y : Numbered). y ∷ (us ++ r.0 ∷ r.1)) q)
-
-opened_open : (state : ActorState) → is_opened state ≡ true → is_open state ≡ true
-opened_open Opened e = refl
-opened_open Closed e = absurd (false≢true e)
-opened_open Asleep e = absurd (false≢true e)
-opened_open Opening e = absurd (false≢true e)
-opened_open Closing e = absurd (false≢true e)
 
 -- an actor's last mark is its own
 pub mark_actor : (a : ℕ) (past : Past) (mark : Mark) → last_mark past a ≡ Some mark → actor_of mark.message ≡ a
@@ -137,7 +129,7 @@ module _ (left right : End) (l : Past) (k : ℕ) (es : List Entry) (ds : List De
   run = left_run left right l (Took k es ds ∷ past) link
 
   opening : OpenMark at.before a ch
-  opening = held_open at.before a ch index (opened_open (state_of at.before a) opened)
+  opening = held_open at.before a ch index (opened_is_open (state_of at.before a) opened)
 
   abbrev first : Numbered
   first = (opening.mark.number, opening.mark.message)
@@ -163,7 +155,7 @@ module _ (left right : End) (l : Past) (k : ℕ) (es : List Entry) (ds : List De
         let are : p.done ≡ (hands ch).done = same_front p.done p.later (hands ch).done (hands ch).later (sym p.split ∙ (hands ch).split)
         (sym (length-map p.done (payload_of ch)) ∙ ap length mapped ∙ length-map (hands ch).done (payload_of ch)) in
         let long : parts_in (hands ch).done < next_of (received_on (Took k es ds ∷ past) ch) =
-        omega (arith, applied_length (received_on (Took k es ds ∷ past) ch), ap length p.is, append_length (all_bunches ch p.done) p.rest, bunches_length ch p.done, ap parts_in are, next_low (received_on (Took k es ds ∷ past) ch)) in
+        omega (arith, applied_length (received_on (Took k es ds ∷ past) ch), ap length p.is, length-append (all_bunches ch p.done) p.rest, bunches_length ch p.done, ap parts_in are, next_low (received_on (Took k es ds ∷ past) ch)) in
         let c = came left.version left right refl (sym same) l (Took k es ds ∷ past) link ch (parts_in (hands ch).done) (below_next (received_on (Took k es ds ∷ past) ch) (parts_in (hands ch).done) q long) in
         let top : c.packet ≤ k = (let t : c.packet ≤ top_of (Took k es ds ∷ past) = among_most (taken_of (Took k es ds ∷ past)) c.packet c.taken in omega (arith, t, fresh, greatest_of-cons k (taken_of past))) in
         made_before left.version left l run c.packet k ch (parts_in (hands ch).done) c.bunch item at c.said top)
@@ -182,7 +174,7 @@ module _ (left right : End) (l : Past) (k : ℕ) (es : List Entry) (ds : List De
 
   -- what came after the open doesn't mark the actor
   unmarked : AllByRecursion (NoMark a) done.0
-  unmarked = all_places (NoMark a) done.0 one
+  unmarked = all_from (NoMark a) done.0 one
     where
       one : (x : Numbered) (before after : List Numbered) → done.0 ≡ before ++ x ∷ after → NoMark a x
       one x before after e = λ actor it.

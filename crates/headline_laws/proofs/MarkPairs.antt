@@ -12,9 +12,7 @@ use Rattle.connection_laws.proofs.Deeds.{always}
 use Rattle.connection_laws.proofs.InTurn.{OpenMark, open_holds_it, held_open}
 use Rattle.headline_laws.specs.Marks.{marks_of, MarkFits, MarksFit}
 use Rattle.headline_laws.proofs.Reopened.{marks_it, new_mark, marks_made}
-
-some_same : (x y : Mark) → (let o : Option Mark = Some x in o) ≡ Some y → x ≡ y
-some_same x y e = cc
+use Rattle.payload_laws.proofs.WorldValues.{same_some}
 
 pub new_fits : (end : End) (past : Past) (a c : ℕ) (m : Message) → MayMake end past c m → marks_it a m ≡ true → MarkFits (new_mark past c m) (marks_of past a)
 new_fits end past a c m may it = by m may it (marks_of past a) refl
@@ -28,7 +26,7 @@ new_fits end past a c m may it = by m may it (marks_of past a) refl
     closes : (b : ℕ) (sleeps : Bool) → MayMake end past c (Closes b sleeps) → b ≡ a → (mark : Mark) → last_mark past a ≡ Some mark → (is_opening mark.message ≡ true) × (mark.channel ≡ c)
     closes b sleeps may same mark e =
         let o : OpenMark past b c = held_open past b c may.place.0 may.place.1 in
-        let is : o.mark ≡ mark = some_same o.mark mark (sym o.last ∙ ap (last_mark past) same ∙ e) in
+        let is : o.mark ≡ mark = same_some o.mark mark (sym o.last ∙ ap (last_mark past) same ∙ e) in
         (ap (λ (x : Mark). is_opening x.message) (sym is) ∙ o.opens, ap (λ (x : Mark). x.channel) (sym is) ∙ o.on)
 
     opens : index_of past a ≡ None → (mark : Mark) → last_mark past a ≡ Some mark → is_opening mark.message ≡ false

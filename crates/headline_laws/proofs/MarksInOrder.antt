@@ -31,6 +31,7 @@ use Rattle.headline_laws.proofs.ServerSays.{shown_passes, looks}
 use Rattle.headline_laws.proofs.Sights.{accepted_before, looked, seeing_rest}
 use Rattle.headline_laws.proofs.WholeMessages.{rows, InRow}
 use Rattle.connection_laws.proofs.Spans.{some_parts}
+use Rattle.payload_laws.proofs.WorldValues.{same_some}
 
 -- ---- numbers
 
@@ -41,9 +42,6 @@ made_low end past run ch made at =
     let n : made.0 ≡ parts_in at.older + 1 = row_at at.newer made at.older (subst InRow at.split row.row) in
     let all : made_count past ch ≡ parts_in at.newer + (parts_of made.1 + parts_in at.older) = row.count ∙ ap parts_in at.split ∙ parts_append at.newer (made ∷ at.older) in
     (omega (arith, n, all), omega (arith, n))
-
-some_mark : (x y : Mark) → (let o : Option Mark = Some x in o) ≡ Some y → x ≡ y
-some_mark x y e = cc
 
 last_first : (past : Past) (a : ℕ) (mark : Mark) (before : List Mark) → marks_of past a ≡ mark ∷ before → last_mark past a ≡ Some mark
 last_first past a mark before e = ap (λ (ks : List Mark). slice_get ks 0) e
@@ -111,7 +109,7 @@ module _ (entries : List Entry) (is : IsTable entries) (player : ℕ) where
       new (Calls b n call args) may g same = absurd (false≢true g)
 
       by : (t : Bool) → marks_it a m ≡ t → slice_get (cond t (new_mark past c m ∷ marks_of past a) (marks_of past a)) 0 ≡ Some mark → IsDead edits a
-      by true q e = new m may (ap (λ (x : Mark). is_gone x.message) (some_mark (new_mark past c m) mark e) ∙ gone) (eqb-true (actor_of m) a (and_parts (actor_of m == a) (is_mark m) q).0)
+      by true q e = new m may (ap (λ (x : Mark). is_gone x.message) (same_some (new_mark past c m) mark e) ∙ gone) (eqb-true (actor_of m) a (and_parts (actor_of m == a) (is_mark m) q).0)
       by false q e = h edits ok before a mark e gone
 
   pub gone_dead : (end : End) (past : Past) → IsRun end past → GoneDead past
@@ -198,7 +196,7 @@ module _ (entries : List Entry) (is : IsTable entries) (player : ℕ) where
     new_comes end past a c (Closes b sleeps) run may see h it same (mark ∷ before) e =
         let o : OpenMark past b c = held_open past b c may.place.0 may.place.1 in
         let last : last_mark past a ≡ Some mark = last_first past a mark before e in
-        let one : o.mark ≡ mark = some_mark o.mark mark (sym o.last ∙ ap (last_mark past) same ∙ last) in
+        let one : o.mark ≡ mark = same_some o.mark mark (sym o.last ∙ ap (last_mark past) same ∙ last) in
         let on : mark.channel ≡ c = ap (λ (x : Mark). x.channel) (sym one) ∙ o.on in
         let low = made_low end past run mark.channel (mark.number, mark.message) (mark_at a past mark last) in
         (ap (λ (x : Mark). is_opening x.message) (sym one) ∙ o.opens, on, omega (arith, low.0, ap (made_count past) on, some_parts mark.message))

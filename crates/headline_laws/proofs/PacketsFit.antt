@@ -20,7 +20,7 @@ use Rattle.connection_model.specs.Items.{loose_item, wants_open, open_message, u
 use Rattle.connection_model.specs.Pack.{Packing, idle_ticks, is_shown, made_if_room, after_close, rec_of, packet_length, fits_current, has_room, items_with, after_offer, part_item, after_open, after_update, after_actor, owes_head, is_silent, packets_to_send, after_sending}
 use Rattle.connection_laws.proofs.Moves.{making_keeps}
 use Rattle.connection_laws.proofs.Counts.{last_sent_sent}
-use Rattle.connection_laws.proofs.Items.{all_append}
+use Rattle.connection_laws.proofs.Items.{all_reverse, all_append}
 use Rattle.connection_laws.proofs.ActorsShown.{all_in_order, all_mapped, all_filtered}
 use Rattle.payload_laws.proofs.Updates.{update_most}
 use Rattle.payload_laws.proofs.Bounds.{gone_most, open_most}
@@ -209,14 +209,10 @@ pub all_fit : (end : End) (start : ℕ) (past : Past) (packets : List (List Item
 all_fit end start past [] h f = h
 all_fit end start past (items ∷ packets) h f = all_fit end start (after_sending past items) packets (one_fits end start past items h f.0) f.1
 
-all_reversed : {A : Type 0} (P : A → Type 0) (xs : List A) → AllByRecursion P xs → AllByRecursion P (reverse xs)
-all_reversed P [] h = tt
-all_reversed P (x ∷ xs) h = subst (AllByRecursion P) (sym (reverse-append (x ∷ []) xs)) (all_append P (reverse xs) (x ∷ []) (all_reversed P xs h.1) (h.0, tt))
-
 pub to_send_fit : (end : End) (start : ℕ) (before : Past) (p : Packing) → PackingFits end start p → AllByRecursion (PacketFits end.version start) (packets_to_send end before p)
 to_send_fit end start before p h =
     cond_both (nat_lt 0 (length p.packets)) (reverse p.packets) (cond (owes_head end.version before || is_silent p.past) ([] ∷ []) []) (AllByRecursion (PacketFits end.version start))
-    (λ e. all_reversed (PacketFits end.version start) p.packets h.each)
+    (λ e. all_reverse (PacketFits end.version start) p.packets h.each)
     (λ e. cond_both (owes_head end.version before || is_silent p.past) ([] ∷ []) [] (AllByRecursion (PacketFits end.version start)) (λ t. (empty, tt)) (λ t. tt))
   where
     empty : PacketFits end.version start []

@@ -28,9 +28,9 @@ use Rattle.table_model.specs.Rules.{Entry}
 use Rattle.table_model.specs.Grammar.{table_of}
 use Rattle.payload_laws.specs.Limits.{HasLimits}
 use Rattle.payload_laws.proofs.ClientLimits.{client_limits}
-use Rattle.bit_io.proofs.BytesLaws.{bits_of-bytes_of}
-use Rattle.bit_io.proofs.Places.{length-bits_of}
-use Rattle.bit_io.proofs.Reading.{number_of_below}
+use Rattle.protocol_laws.proofs.BytesLaws.{bits_of-bytes_of}
+use Rattle.protocol_laws.proofs.Lengths.{length-bits_of}
+use Rattle.protocol_laws.proofs.Reading.{number_of_below}
 use Rattle.packet_codec.proofs.BunchSpelled.{both, is_lower}
 use Rattle.packet_codec.proofs.PacketLaws.{packet_back}
 use Rattle.connection_laws.specs.Talk.{packet_at}
@@ -40,6 +40,7 @@ use Rattle.headline_laws.specs.Fits.{ItemFits, PacketFits, EventFits, PastFits, 
 use Rattle.headline_laws.proofs.Lengths.{start_same, count_of}
 use Rattle.headline_laws.proofs.Ticks.{CallsKnow, tick_fits, event_call_fits}
 use Rattle.headline_laws.proofs.Datagrams.{got_fits}
+use Rattle.std.proofs.lemmas.Bool.{le-leb}
 
 -- ---- the head
 
@@ -54,9 +55,6 @@ words_low past (suc count) from =
     both (nat_lt (history_word past (top_of past - 32 * from)) (2 ^ 32)) (list_all (λ word. nat_lt word (2 ^ 32)) (map (λ w. history_word past (top_of past - 32 * w)) (range_with_len (from + 1) count)))
     (is_lower (history_word past (top_of past - 32 * from)) (2 ^ 32) (word_low past (top_of past - 32 * from))) (words_low past count (from + 1))
 
-leb_of : (m n : ℕ) → m ≤ n → nat_le m n ≡ true
-leb_of m n h = grind (arith, nat_tests)
-
 head_fits : (v : Version) (past : Past) → is_head v (head_of v past) ≡ true
 head_fits One past = refl
 head_fits Two past =
@@ -65,8 +63,8 @@ head_fits Two past =
     let high : word_count past ≤ 1 + 7 = least_high (λ w. nat_le (top_of past - top_when past (high_of past)) (32 * w)) 7 1 in
     let count : length (head_of Two past).words ≡ word_count past = count_of (λ w. history_word past (top_of past - 32 * w)) (word_count past) 0 in
     let a : nat_lt (top_of past % 16384) 16384 ≡ true = is_lower (top_of past % 16384) 16384 (mod_below (top_of past) 16384 (omega arith)) in
-    let b : nat_le 1 (length (head_of Two past).words) ≡ true = leb_of 1 (length (head_of Two past).words) (omega (arith, low, count)) in
-    let c : nat_le (length (head_of Two past).words) 8 ≡ true = leb_of (length (head_of Two past).words) 8 (omega (arith, high, count)) in
+    let b : nat_le 1 (length (head_of Two past).words) ≡ true = le-leb 1 (length (head_of Two past).words) (omega (arith, low, count)) in
+    let c : nat_le (length (head_of Two past).words) 8 ≡ true = le-leb (length (head_of Two past).words) 8 (omega (arith, high, count)) in
     both (nat_lt (top_of past % 16384) 16384 && nat_le 1 (length (head_of Two past).words) && nat_le (length (head_of Two past).words) 8)
     (list_all (λ word. nat_lt word (2 ^ 32)) (head_of Two past).words)
     (both (nat_lt (top_of past % 16384) 16384 && nat_le 1 (length (head_of Two past).words)) (nat_le (length (head_of Two past).words) 8)

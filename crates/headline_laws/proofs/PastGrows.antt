@@ -27,9 +27,6 @@ pub record Grows (past later : Past) : Type 0 where
   pub made : (ch : ℕ) → (newer : List Numbered) × (on_index ch later ≡ newer ++ on_index ch past)
   pub arrived : (ch i : ℕ) → has_arrived past ch i ≡ true → has_arrived later ch i ≡ true
 
-pub grows_same : (past : Past) → Grows past past
-grows_same past = record { made = λ ch. ([], refl); arrived = λ ch i e. e }
-
 pub grows_on : (past later last : Past) → Grows past later → Grows later last → Grows past last
 grows_on past later last g h = record {
   made = λ ch. ((h.made ch).0 ++ (g.made ch).0, (h.made ch).1 ∙ ap (λ (l : List Numbered). (h.made ch).0 ++ l) (g.made ch).1 ∙ sym (append_assoc (h.made ch).0 (g.made ch).0 (on_index ch past)));

@@ -135,31 +135,12 @@ behind_next end past run ch done next later e made at above =
     by (first_later es p q) = inr (omega (arith, n, ap parts_in p, parts_append done (next ∷ es)))
     by (second_later es p q) = absurd (omega (arith, above, n, ap parts_in p, parts_append (reverse at.older) (made ∷ es), some_parts made.1))
 
--- messages with the same number are one
-pub same_number : (end : End) (past : Past) → IsRun end past → (ch : ℕ) (made other : Numbered) → MadeAt past ch made → MadeAt past ch other → made.0 ≡ other.0 → made ≡ other
-same_number end past run ch made other at there e =
-    by (places (reverse at.older) made (reverse at.newer) (reverse there.older) other (reverse there.newer) (sym (at_place past ch made at) ∙ at_place past ch other there))
-  where
-    n : made.0 ≡ parts_in (reverse at.older) + 1
-    n = number_is end past run ch (reverse at.older) made (reverse at.newer) (at_place past ch made at)
-
-    m : other.0 ≡ parts_in (reverse there.older) + 1
-    m = number_is end past run ch (reverse there.older) other (reverse there.newer) (at_place past ch other there)
-
-    by : Places (reverse at.older) made (reverse at.newer) (reverse there.older) other (reverse there.newer) → made ≡ other
-    by (one p q r) = q
-    by (first_later es p q) = absurd (omega (arith, n, m, e, ap parts_in p, parts_append (reverse there.older) (other ∷ es), some_parts other.1))
-    by (second_later es p q) = absurd (omega (arith, n, m, e, ap parts_in p, parts_append (reverse at.older) (made ∷ es), some_parts made.1))
-
 -- ---- marks among the messages made
 
 pub record IsMarked (past : Past) (a : ℕ) (mark : Mark) : Type 0 where
   pub newer : List Mark
   pub older : List Mark
   pub split : marks_of past a ≡ newer ++ mark ∷ older
-
-pub mark_of : (ch : ℕ) → Numbered → Mark
-mark_of ch made = record { channel = ch; number = made.0; message = made.1 }
 
 -- a mark that was made on an index is one of its actor's
 pub marked : (ch : ℕ) (made : Numbered) (a : ℕ) → actor_of made.1 ≡ a → is_mark made.1 ≡ true → (past : Past) → MadeAt past ch made → IsMarked past a (record { channel = ch; number = made.0; message = made.1 })

@@ -21,6 +21,7 @@ use Rattle.connection_laws.proofs.ActorMarks.{holds_fit}
 use Rattle.payload_laws.specs.Passing.{is_gone}
 use Rattle.payload_laws.proofs.HeaderRules.{client_placed, loose_placed}
 use Rattle.headline_laws.specs.Placed.{PlacedAtClient}
+use Rattle.protocol_laws.proofs.Bounds.{not_zero}
 
 -- a Gone goes on channel 0, and all else elsewhere
 abbrev pub Rule : Past → Deed → Type 0
@@ -31,11 +32,8 @@ Rule past (Sent n t items) = Unit {0}
 Rule past (Took n es ds) = Unit {0}
 Rule past (Ended g) = Unit {0}
 
-above_zero : (ch : ℕ) → 1 ≤ ch → (ch == 0) ≡ false
-above_zero ch h = ne_eqb ch 0 (λ e. absurd (omega (arith, h, e)))
-
 index_above : (end : End) (past : Past) (a ch : ℕ) → IsRun end past → index_of past a ≡ Some ch → (ch == 0) ≡ false
-index_above end past a ch run e = above_zero ch ((holds_fit end past run).above a ch e)
+index_above end past a ch run e = not_zero ch ((holds_fit end past run).above a ch e)
 
 call_above : (end : End) (past : Past) (a ch : ℕ) → IsRun end past → call_channel AtServer past a ≡ Some ch → (ch == 0) ≡ false
 call_above end past a ch run e = by (is_opened (state_of past a)) e
@@ -45,7 +43,7 @@ call_above end past a ch run e = by (is_opened (state_of past a)) e
     by false e = absurd (let no : (let o : Option ℕ = None in o) ≡ Some ch = e in cc)
 
 pub rule_made : (end : End) (past : Past) (ch : ℕ) (m : Message) → end.side ≡ AtServer → IsRun end past → MayMake end past ch m → (ch == 0) ≡ is_gone m
-rule_made end past ch (Opens exports a class values) s run may = above_zero ch may.place.0
+rule_made end past ch (Opens exports a class values) s run may = not_zero ch may.place.0
 rule_made end past ch (Closes a sleeps) s run may = index_above end past a ch run may.place.0
 rule_made end past ch (Updates a class values) s run may = absurd may.place
 rule_made end past ch (Calls a n call args) s run may = call_above end past a ch run (subst (λ (x : Side). call_channel x past a ≡ Some ch) s may.place.0)

@@ -61,6 +61,8 @@ use Rattle.headline_laws.proofs.ClientHears.{loose_said, loosely}
 use Rattle.headline_laws.proofs.NextInTurn.{user_done}
 use Rattle.protocol_model.specs.Search.{newest_of}
 use Rattle.std.specs.Bool.{then_some}
+use Rattle.connection_laws.proofs.ActorMarks.{opened_is_open}
+use Rattle.connection_laws.proofs.StoriesTalk.{all_from}
 
 -- ---- what a client says
 
@@ -126,10 +128,6 @@ user_zero (x ∷ ms) h = by x.1 refl h.0 (user_zero ms h.1)
     by (Updates a class values) e g u = absurd (false≢true (sym (ap is_gone e) ∙ g))
     by (Calls a n call args) e g u = absurd (false≢true (sym (ap is_gone e) ∙ g))
 
-all_places : (P : Numbered → Type 0) (xs : List Numbered) → ((x : Numbered) (before after : List Numbered) → xs ≡ before ++ x ∷ after → P x) → AllByRecursion P xs
-all_places P [] h = tt
-all_places P (x ∷ xs) h = (h x [] xs refl, all_places P xs (λ y before after e. h y (x ∷ before) after (ap (λ l. x ∷ l) e)))
-
 waited_known : (entries : List Entry) (classes : ℕ → Class) (l r : Past) (m : Message) → ClientSays entries classes l r → (newer older : List Message) → filter_map waits_in r ≡ newer ++ m ∷ older → CallKnown entries classes l m
 waited_known entries classes l r m h newer older e = at newer (subst (AllByRecursion (CallKnown entries classes l)) e (all r h))
   where
@@ -155,7 +153,7 @@ module _ (entries : List Entry) (classes : ℕ → Class) (left right : End) (l 
       by false e = e
       by true e =
           let gone : AllByRecursion (λ (x : Numbered). is_gone x.1 ≡ true) (f.hands ch).done =
-          all_places (λ (x : Numbered). is_gone x.1 ≡ true) (f.hands ch).done (λ x before after q.
+          all_from (λ (x : Numbered). is_gone x.1 ≡ true) (f.hands ch).done (λ x before after q.
           sym (each_made Rule l ch x (rules left l facts.side facts.run) (place_at l ch before x (after ++ (f.hands ch).later) ((f.hands ch).split ∙ ap (λ (z : List Numbered). z ++ (f.hands ch).later) q ∙ append_assoc before (x ∷ after) (f.hands ch).later))).1 ∙ e) in
           let none : user_at r ch ≡ None = user_done r ch (f.hands ch).done (f.hands ch).same ∙ user_zero (reverse (f.hands ch).done) (all_reverse (λ (x : Numbered). is_gone x.1 ≡ true) (f.hands ch).done gone) in
           absurd (let no : (let o : Option ℕ = None in o) ≡ Some a = sym none ∙ f.agree.held ch a c in cc)
@@ -225,14 +223,7 @@ module _ (entries : List Entry) (classes : ℕ → Class) (left right : End) (l 
   loose_known r ch (Opens exports a class values) f h p = absurd p
   loose_known r ch (Closes a sleeps) f h p = absurd p
   loose_known r ch (Gone a) f h p = absurd p
-  loose_known r ch (Updates a class values) f h p = absurd (unopened r h a ch (held_open r a ch p.1 (opened_open (state_of r a) p.0)))
-    where
-      opened_open : (state : ActorState) → is_opened state ≡ true → is_open state ≡ true
-      opened_open Opened e = refl
-      opened_open Closed e = absurd (false≢true e)
-      opened_open Asleep e = absurd (false≢true e)
-      opened_open Opening e = absurd (false≢true e)
-      opened_open Closing e = absurd (false≢true e)
+  loose_known r ch (Updates a class values) f h p = absurd (unopened r h a ch (held_open r a ch p.1 (opened_is_open (state_of r a) p.0)))
   loose_known r ch (Calls a n call args) f h p = (
     waited_known entries classes l r (Calls a n call args) h p.2.0 p.2.1 p.2.2,
     copy_above r f a ch (subst (λ (x : Side). call_channel x r a ≡ Some ch) client p.1),

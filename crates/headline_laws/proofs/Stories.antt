@@ -26,12 +26,9 @@ use Rattle.payload_laws.proofs.WorldValues.{same_some}
 use Rattle.payload_laws.proofs.SightSpelling.{spawns_few, sight_spells, from, numbered}
 use Rattle.headline_laws.specs.Fits.{SeenFits, EventFits, PastFits}
 use Rattle.headline_laws.proofs.PacketsSpelled.{packets_read, end_fits}
+use Rattle.connection_laws.proofs.ActorsShown.{all_of_gets}
 
 -- ---- sights
-
-all_of_gets : {A : Type 0} (P : A → Type 0) (xs : List A) → ((n : ℕ) (x : A) → slice_get xs n ≡ Some x → P x) → AllByRecursion P xs
-all_of_gets P [] h = tt
-all_of_gets P (x ∷ xs) h = (h 0 x refl, all_of_gets P xs (λ n y e. h (suc n) y e))
 
 actor_is : (table : Table) (edits : Edits) (player a : ℕ) (seen : Seen) (r d : Bool) → cond r (Some (seen_of table edits player a)) (cond d (Some (destroyed_of table edits a)) None) ≡ Some seen → seen.actor ≡ a
 actor_is table edits player a seen true d h = ap (λ (s : Seen). s.actor) (sym (same_some (seen_of table edits player a) seen h))

@@ -27,6 +27,7 @@ use Rattle.connection_laws.proofs.Searches.{among_cons}
 use Rattle.connection_laws.proofs.Transfer.{Transfers, arrived_received}
 use Rattle.headline_laws.specs.Fits.{PastFits}
 use Rattle.headline_laws.specs.Follows.{parts_in}
+use Rattle.std.proofs.lemmas.List.{length-append}
 
 -- ---- messages are numbered by their parts
 
@@ -130,16 +131,12 @@ pub range_length : (count from : ℕ) → length (range_with_len from count) ≡
 range_length zero from = refl
 range_length (suc count) from = ap suc (range_length count (from + 1))
 
-pub append_length : {A : Type 0} (xs ys : List A) → length (xs ++ ys) ≡ length xs + length ys
-append_length [] ys = omega arith
-append_length (x ∷ xs) ys = omega (arith, append_length xs ys)
-
 pub bunches_length : (ch : ℕ) (ms : List Numbered) → length (flat_map (bunches_of ch) ms) ≡ parts_in ms
 bunches_length ch [] = refl
 bunches_length ch (x ∷ ms) =
     omega (
       arith,
-      append_length (bunches_of ch x) (flat_map (bunches_of ch) ms),
+      length-append (bunches_of ch x) (flat_map (bunches_of ch) ms),
       map_length (λ i. made_bunch ch (x.0 + i) x.1 i) (range_with_len 0 (parts_of x.1)),
       range_length (parts_of x.1) 0,
       bunches_length ch ms,
