@@ -16,19 +16,24 @@ use Rattle.connection_laws.proofs.Deeds.{always}
 
 -- ---- what stays
 
+-- making a message acknowledges nothing
 pub told_made : (past : Past) (ch : ℕ) (m : Message) → acknowledged_of (after_making past ch m) ≡ acknowledged_of past
 told_made past ch m = made_ignored_all acknowledged_in (λ c n m i. refl) past ch m
 
+-- making a message takes no packet
 pub taken_made : (past : Past) (ch : ℕ) (m : Message) → taken_of (after_making past ch m) ≡ taken_of past
 taken_made past ch m = made_ignored taken_in (λ c n m i. refl) past ch m
 
+-- nor since the tick
 pub since_made : (past : Past) (ch : ℕ) (m : Message) → taken_of (deeds_since_tick (after_making past ch m)) ≡ taken_of (deeds_since_tick past)
 since_made past ch m =
     making_keeps (λ i before. taken_of (deeds_since_tick before) ≡ taken_of (deeds_since_tick past)) past ch m refl (λ i before lt e. e)
 
+-- hearing an entry takes no packet
 pub taken_told : (entry : Entry) (past : Past) → taken_of (with_told entry past) ≡ taken_of past
 taken_told entry past = told_ignored taken_in (λ n e es ds. refl) entry past
 
+-- handing a payload on takes no packet
 pub taken_handed : (d : Delivered) (past : Past) → taken_of (with_handed d past) ≡ taken_of past
 taken_handed d past = handed_ignored taken_in (λ n es d ds. refl) d past
 
@@ -83,6 +88,7 @@ tells_taken_step end past (Hands d) run alive may h =
     tells_like past (with_handed d past) (handed_ignored_all acknowledged_in (λ n es d ds. refl) d past) (taken_handed d past) (since_handed d past) h
 tells_taken_step end past (Ends ending) run alive may h = record { taken = h.taken; order = h.order }
 
+-- what is acknowledged was taken, in order
 pub tells_taken : (end : End) (past : Past) → IsRun end past → AcknowledgesTaken past
 tells_taken end past run =
     always end AcknowledgesTaken (record { taken = λ x e. absurd (false≢true e); order = λ x y e f. absurd (false≢true e) }) (tells_taken_step end) past run

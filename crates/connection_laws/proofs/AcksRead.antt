@@ -42,16 +42,19 @@ pub record FreshTwo (me other : Past) : Type 0 where
   pub later : (k : ℕ) → top_of me < k → k ≤ last_sent other → high_of me ≤ top_when other k
   pub now : HeadWaits me other
 
+-- what is left to hear of acknowledgements is above what is known, in either version
 abbrev pub Fresh : Version → (me other : Past) → Type 0
 Fresh One me other = FreshOne me other
 Fresh Two me other = FreshTwo me other
 
+-- nothing is left at first
 pub fresh_start : (v : Version) → Fresh v [] []
 fresh_start One = record { known = λ x h. absurd (false≢true h); later = λ k x lt h. absurd (false≢true h); now = λ x h. absurd (false≢true h) }
 fresh_start Two = record { later = λ k lt h. omega arith; now = tt }
 
 -- ---- the end that is told does something else
 
+-- it stays so where the hearing end learns nothing and goes no further back
 pub fresh_me : (v : Version) (me after other : Past) → moved_of after ≡ moved_of me → top_of me ≤ top_of after → left_of v after other ≡ [] → HeadWaits after other → Fresh v me other → Fresh v after other
 fresh_me One me after other m t l w f = record {
   known = λ x h. f.known x (ap (is_among x) (sym m) ∙ h);
@@ -159,6 +162,7 @@ fresh_sends Two end two me other items may old high f = record {
 abbrev pub NamesSent : Past → Entry → Type 0
 NamesSent past entry = (z : ℤ) → IsIn z (named_by entry (high_of past)) → (x : ℕ) → z ≡ pos x → x ≤ last_sent past
 
+-- after an entry: each packet that is known to have arrived was known before, or was heard to its end
 pub record Told1 (v : Version) (me after other : Past) : Type 0 where
   pub moved : (x : ℕ) → is_among x (moved_of after) ≡ true → (is_among x (moved_of me) ≡ true) ⊎ (is_among x (done_of other) ≡ true)
   pub fresh : Fresh v after other

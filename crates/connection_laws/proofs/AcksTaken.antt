@@ -26,6 +26,7 @@ use Rattle.protocol_laws.proofs.Greatest.{greatest_of-cons}
 
 -- ---- what was heard to its end was taken
 
+-- what was heard to its end was taken
 pub done_taken : (past : Past) (x : ℕ) → is_among x (done_of past) ≡ true → is_among x (taken_of past) ≡ true
 done_taken [] x h = h
 done_taken (Took n es ds ∷ past) x h = among_there n (taken_of past) x h
@@ -47,15 +48,18 @@ done_end : (past : Past) (i : ℕ) (before : Past) → 1 ≤ i → IsDoneBy past
 done_end past zero before lo h = absurd (omega arith)
 done_end past (suc i) before lo h = h.1
 
+-- where a message is made, no packet is under way
 pub done_made : (past : Past) (ch : ℕ) (m : Message) → done_of (after_making past ch m) ≡ taken_of past
 done_made past ch m =
     done_end past (parts_of m) (after_making past ch m) (some_parts m)
     (making_keeps (IsDoneBy past) past ch m refl (λ i before lt h. done_step past ch (made_count past ch + 1 + i) m i i before h))
 
+-- hearing an entry ends no packet
 pub done_told : (entry : Entry) (past : Past) → done_of (with_told entry past) ≡ done_of past
 done_told entry (Took n es ds ∷ past) = refl
 done_told entry past = refl
 
+-- handing a payload on ends no packet
 pub done_handed : (d : Delivered) (past : Past) → done_of (with_handed d past) ≡ done_of past
 done_handed d (Took n es ds ∷ past) = refl
 done_handed d past = refl
@@ -75,6 +79,7 @@ held_acks : (items : List Item) → filter_map ack_in (map (λ (item : Item). Sa
 held_acks [] = refl
 held_acks (item ∷ items) = ap (cons_option (owed_in item)) (held_acks items)
 
+-- the acknowledgements that a packet says are those of its items
 pub acks_said : (v : Version) (past : Past) (items : List Item) → filter_map ack_in (all_said v past items) ≡ owed_by items
 acks_said One past items = held_acks items
 acks_said Two past items = held_acks items
@@ -84,9 +89,11 @@ ack_said : (said : List Said) (x : ℕ) → is_among x (filter_map ack_in said) 
 ack_said [] x h = absurd (false≢true h)
 ack_said (s ∷ said) x h = (s, inl refl)
 
+-- a packet that acknowledges was sent
 pub ack_sent : (end : End) (v : Version) (past : Past) → DeedsFit end past → (x k : ℕ) → is_among x (acks_by v past k) ≡ true → k ≤ last_sent past
 ack_sent end v past fit x k h = (let s = ack_said (said_by v past k) x h in (said_sent end v past fit s.0 k s.1).1)
 
+-- what a packet acknowledges was acknowledged
 pub acks_told : (v : Version) (past : Past) (x k : ℕ) → is_among x (acks_by v past k) ≡ true → is_among x (acknowledged_of past) ≡ true
 acks_told v [] x k h = absurd (false≢true h)
 acks_told v (Ticked t s ∷ past) x k h = acks_told v past x k h
@@ -101,6 +108,7 @@ acks_told v (Sent number t items ∷ past) x k h = by (number == k) h (λ q. ack
     by true h ih = among_left (owed_by items) (acknowledged_of past) x (ap (is_among x) (sym (acks_said v past items)) ∙ h)
     by false h ih = among_right (owed_by items) (acknowledged_of past) x (ih h)
 
+-- each of ascending numbers is above where they begin
 pub ascends_above : (low : ℕ) (ns : List ℕ) (x : ℕ) → Ascends low ns → is_among x ns ≡ true → low < x
 ascends_above low [] x h e = absurd (false≢true e)
 ascends_above low (n ∷ ns) x h e = elim (among_cons n ns x e) [ inl q ↦ omega (arith, h.0) | inr q ↦ (let l : n < x = ascends_above n ns x h.1 q in omega (arith, h.0)) ]
@@ -109,6 +117,7 @@ ascends_lower : (low : ℕ) (ns : List ℕ) → Ascends low ns → Ascends 0 ns
 ascends_lower low [] h = tt
 ascends_lower low (n ∷ ns) h = (omega (arith, h.0), h.1)
 
+-- numbers that ascend do so from each of them on
 pub ascends_middle : (low : ℕ) (xs : List ℕ) (x : ℕ) (ys : List ℕ) → Ascends low (xs ++ x ∷ ys) → Ascends x ys
 ascends_middle low [] x ys h = h.1
 ascends_middle low (z ∷ xs) x ys h = ascends_middle z xs x ys h.1
@@ -182,6 +191,7 @@ no_acks end two v (Sent number t items ∷ past) fit k = by (number == k) (no_ac
 top_taken : (n : ℕ) (es : List Entry) (ds : List Delivered) (past : Past) → top_of (Took n es ds ∷ past) ≡ max n (top_of past)
 top_taken n es ds past = greatest_of-cons n (taken_of past)
 
+-- the greatest number taken when a packet was sent is below the greatest now
 pub top_when_le : (past : Past) (k : ℕ) → top_when past k ≤ top_of past
 top_when_le [] k = omega arith
 top_when_le (Ticked t s ∷ past) k = top_when_le past k
@@ -262,6 +272,7 @@ tells_head past items head (inr h) = absurd (none items h)
         no e = cc
     none (item ∷ items) (inr h) = none items h
 
+-- the head of a packet names packets that were taken before it was sent
 pub head_facts : (end : End) (past : Past) → DeedsFit end past → (k : ℕ) (head : Head) → IsIn (SaysHead head) (said_by Two past k) → HeadFacts past k head
 head_facts end [] fit k head h = absurd h
 head_facts end (Ticked t s ∷ past) fit k head h = same_facts past (Ticked t s ∷ past) k head refl (done_taken past) (head_facts end past fit.1 k head h)
@@ -284,6 +295,7 @@ head_facts end (Sent number t items ∷ past) fit k head h = by (number == k) re
 
 -- ---- the numbers that a history names
 
+-- the numbers that a history names are those of its parts
 pub named-append : (a : ℤ) (xs ys : List Bool) → named_numbers a (xs ++ ys) ≡ named_numbers a xs ++ named_numbers (a -ℤ pos (length xs)) ys
 named-append a [] ys = (let e : a -ℤ pos 0 ≡ a = omega (arith, ints) in rw e refl)
 named-append a (true ∷ xs) ys = (let e : (a -ℤ pos 1) -ℤ pos (length xs) ≡ a -ℤ pos (suc (length xs)) = omega (arith, ints) in ap (λ (zs : List ℤ). a ∷ zs) (named-append (a -ℤ pos 1) xs ys ∙ ap (λ (z : ℤ). named_numbers (a -ℤ pos 1) xs ++ named_numbers z ys) e))

@@ -48,6 +48,7 @@ Grows past later = (ch n : ℕ) → has_arrived past ch n ≡ true → has_arriv
 abbrev pub SameArrivals : Past → Past → Type 0
 SameArrivals past later = (ch n : ℕ) → has_arrived later ch n ≡ has_arrived past ch n
 
+-- where arrivals are the same, none is lost
 pub same_grows : (past later : Past) → SameArrivals past later → Grows past later
 same_grows past later h ch n e = h ch n ∙ e
 
@@ -82,6 +83,7 @@ some_index true (Some mark) ch e = (refl, (mark, refl, is mark.channel ch e))
 some_index true None ch e = absurd (let no : (let p : Option ℕ = None in p) ≡ Some ch = e in cc)
 some_index false o ch e = absurd (let no : (let p : Option ℕ = None in p) ≡ Some ch = e in cc)
 
+-- an actor with the same last mark holds no index that it did not hold
 pub index_kept : (past later : Past) → Grows past later → (a ch : ℕ) → last_mark later a ≡ last_mark past a → index_of later a ≡ Some ch → index_of past a ≡ Some ch
 index_kept past later h a ch same e = by (last_mark later a) refl
   where
@@ -105,6 +107,7 @@ after_same past later h mark (Gone a) = refl
 after_same past later h mark (Updates a class values) = refl
 after_same past later h mark (Calls a n call args) = refl
 
+-- where arrivals and the last mark are the same, so is the state
 pub state_same : (past later : Past) → SameArrivals past later → (a : ℕ) → last_mark later a ≡ last_mark past a → state_of later a ≡ state_of past a
 state_same past later h a e = ap (state_at later) e ∙ by (last_mark past a)
   where
@@ -112,6 +115,7 @@ state_same past later h a e = ap (state_at later) e ∙ by (last_mark past a)
     by None = refl
     by (Some mark) = after_same past later h mark mark.message
 
+-- and so is the index that it holds
 pub index_same : (past later : Past) → SameArrivals past later → (a : ℕ) → last_mark later a ≡ last_mark past a → index_of later a ≡ index_of past a
 index_same past later h a e =
     ap (λ (s : ActorState). index_at (holds_index s) (last_mark later a)) (state_same past later h a e) ∙ ap (index_at (holds_index (state_of past a))) e
@@ -161,6 +165,7 @@ abbrev pub OpensOn : Past → (ch : ℕ) → Message → (a c : ℕ) → Type 0
 OpensOn past c (Opens exports actor class values) a ch = (actor ≡ a) × (c ≡ ch) × (1 ≤ c) × (is_held past c ≡ false)
 OpensOn past c m a ch = ⊥
 
+-- after a message is made an actor holds the index that it held, or the new one
 pub index_made : (end : End) (past : Past) (c : ℕ) (m : Message) → MayMake end past c m → (a ch : ℕ) → index_of (after_making past c m) a ≡ Some ch
     → (index_of past a ≡ Some ch) ⊎ OpensOn past c m a ch
 index_made end past c m may a ch e = by (marks a m) refl
@@ -200,6 +205,7 @@ index_made end past c m may a ch e = by (marks a m) refl
 abbrev opens_of : Past → List ℕ
 opens_of past = filter_map opened_in past
 
+-- an actor that holds an index is among the opened ones, and no other holds that index
 pub record Holders (past : Past) : Type 0 where
   pub one : (a b ch : ℕ) → index_of past a ≡ Some ch → index_of past b ≡ Some ch → a ≡ b
   pub opened : (a ch : ℕ) → index_of past a ≡ Some ch → is_among a (opens_of past) ≡ true
@@ -219,6 +225,7 @@ any_at p a (n ∷ ns) h e = elim (among_cons n ns a h) [
     second : (x y : Bool) → y ≡ true → (x || y) ≡ true
     second x y e = grind arith
 
+-- an index that an actor holds is held
 pub held_found : (past : Past) → Holders past → (a ch : ℕ) → index_of past a ≡ Some ch → is_held past ch ≡ true
 held_found past h a ch e =
     any_at (λ b. holds past b ch) a (opened_actors past) (among_ascending (opens_of past) a (h.opened a ch e)) (ap (is_index ch) e ∙ eq-eqb ch ch refl)
@@ -292,12 +299,15 @@ holders_made end past c m may h = record {
     both a b ch (inr p) (inl q) = absurd (clash b a ch q p)
     both a b ch (inr p) (inr q) = sym (opens_facts past c m a ch p).0 ∙ (opens_facts past c m b ch q).0
 
+-- hearing an entry marks nothing
 pub mark_told : (entry : Entry) (past : Past) (a : ℕ) → last_mark (with_told entry past) a ≡ last_mark past a
 mark_told entry past a = ap (λ (ms : List Mark). slice_get ms 0) (told_ignored (mark_in a) (λ n e es ds. refl) entry past)
 
+-- handing a payload on marks nothing
 pub mark_handed : (d : Delivered) (past : Past) (a : ℕ) → last_mark (with_handed d past) a ≡ last_mark past a
 mark_handed d past a = ap (λ (ms : List Mark). slice_get ms 0) (handed_ignored (mark_in a) (λ n es d ds. refl) d past)
 
+-- in a run each index has at most one holder
 pub holders : (end : End) (past : Past) → IsRun end past → Holders past
 holders end past run = always end Holders (record { one = λ a b ch p q. absurd (none a ch p); opened = λ a ch p. absurd (none a ch p); above = λ a ch p. absurd (none a ch p) }) step past run
   where

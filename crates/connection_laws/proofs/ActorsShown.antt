@@ -10,23 +10,28 @@ use Rattle.connection_laws.specs.Run.{Shows}
 
 -- ---- all of a list, in another order
 
+-- what holds of each item by its place holds of all
 pub all_of_gets : {A : Type 0} (P : A → Type 0) (xs : List A) → ((n : ℕ) (x : A) → slice_get xs n ≡ Some x → P x) → AllByRecursion P xs
 all_of_gets P [] h = tt
 all_of_gets P (x ∷ xs) h = (h 0 x refl, all_of_gets P xs (λ n y e. h (suc n) y e))
 
+-- what holds of all holds with one more in its place
 pub all_inserted : {A : Type 0} (P : A → Type 0) (before : A → A → Bool) (x : A) (ys : List A) → P x → AllByRecursion P ys → AllByRecursion P (insert_in_order before x ys)
 all_inserted P before x [] px h = (px, tt)
 all_inserted P before x (y ∷ ys) px h =
     cond_both (before y x) (y ∷ insert_in_order before x ys) (x ∷ y ∷ ys) (AllByRecursion P) (λ e. (h.0, all_inserted P before x ys px h.1)) (λ e. (px, h))
 
+-- what holds of all holds in order
 pub all_in_order : {A : Type 0} (P : A → Type 0) (before : A → A → Bool) (xs : List A) → AllByRecursion P xs → AllByRecursion P (in_order before xs)
 all_in_order P before [] h = tt
 all_in_order P before (x ∷ xs) h = all_inserted P before x (in_order before xs) h.0 (all_in_order P before xs h.1)
 
+-- what holds of all images holds of what is mapped
 pub all_mapped : {A B : Type 0} (P : B → Type 0) (f : A → B) (xs : List A) → AllByRecursion (λ (x : A). P (f x)) xs → AllByRecursion P (map f xs)
 all_mapped P f [] h = tt
 all_mapped P f (x ∷ xs) h = (h.0, all_mapped P f xs h.1)
 
+-- what holds of all holds of those that pass
 pub all_filtered : {A : Type 0} (P : A → Type 0) (test : A → Bool) (xs : List A) → AllByRecursion P xs → AllByRecursion P (filter test xs)
 all_filtered P test [] h = tt
 all_filtered P test (x ∷ xs) h = cond_both (test x) (x ∷ filter test xs) (filter test xs) (AllByRecursion P) (λ e. (h.0, all_filtered P test xs h.1)) (λ e. all_filtered P test xs h.1)
@@ -42,9 +47,11 @@ all_kept {A} P test (x ∷ xs) h =
 abbrev pub SeenNow : Past → Seen → Type 0
 SeenNow past seen = Shows past seen × (seen.relevant ≡ true)
 
+-- what is seen stays so while the sight is the same
 pub seen_like : (past later : Past) → sight_of later ≡ sight_of past → (seen : Seen) → SeenNow past seen → SeenNow later seen
 seen_like past later e seen h = ((h.0.0, ap (λ (l : List Seen). slice_get l h.0.0) e ∙ h.0.1), h.1)
 
+-- each actor of a tick is relevant in its sight
 pub actors_seen_now : (past : Past) → AllByRecursion (SeenNow past) (actors_by_score past)
 actors_seen_now past =
     all_mapped (SeenNow past) (λ (scored : ℕ × Seen). scored.1) (in_order goes_before (scored_actors past))

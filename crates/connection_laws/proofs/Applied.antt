@@ -16,6 +16,7 @@ use Rattle.connection_laws.proofs.Prefixes.{range_split, found_same}
 
 -- ---- the next number
 
+-- the next number is the least that was not received
 pub next_is : (got : List Received) (m : ℕ) → 1 ≤ m → ((i : ℕ) → 1 ≤ i → i < m → has got i ≡ true) → has got m ≡ false → next_of got ≡ m
 next_is got m lo below new = elim (cases_lt (next_of got) m) [
   | inl lt ↦ absurd (false≢true (sym (next_new got) ∙ below (next_of got) (next_low got) lt))
@@ -82,6 +83,7 @@ abbrev pub kept_after : (kept : List Bunch) → List Bunch → List Bunch
 kept_after kept [] = kept
 kept_after kept (b ∷ run) = cond (ends_payload b) (kept_after [] run) (kept_after (b ∷ kept) run)
 
+-- what is joined of two runs is joined of the first, and then of the second with what was kept
 pub wholes_split : (xs ys kept : List Bunch) → wholes_from kept (xs ++ ys) ≡ wholes_from kept xs ++ wholes_from (kept_after kept xs) ys
 wholes_split [] ys kept = refl
 wholes_split (x ∷ xs) ys kept = by (ends_payload x) (wholes_split xs ys []) (wholes_split xs ys (x ∷ kept))
@@ -137,6 +139,7 @@ received_by_on : (es : List Entry) (ch : ℕ) → AllByRecursion (λ (r : Receiv
 received_by_on [] ch = tt
 received_by_on (entry ∷ es) ch = entry_on ch (received_by es ch) entry (received_by_on es ch)
 
+-- what was received on an index is of it
 pub received_are_on : (past : Past) (ch : ℕ) → AllByRecursion (λ (r : Received). IsOn ch r.1) (received_on past ch)
 received_are_on past ch = received_by_on (entries_of past) ch
 
@@ -152,6 +155,7 @@ found_on P n (r ∷ got) b h e = by (r.0 == n) e (λ q. found_on P n got b h.1 q
     by true q ih = subst P (same r.1 b q) h.0
     by false q ih = ih q
 
+-- what holds of what was received holds of the run
 pub run_on : (P : Bunch → Type 0) (got : List Received) (from count : ℕ) → AllByRecursion (λ (r : Received). P r.1) got → AllByRecursion P (run_of got from count)
 run_on P got from zero h = tt
 run_on P got from (suc count) h = by (newest_of (as_number from) got) refl (run_on P got (from + 1) count h)
@@ -160,11 +164,13 @@ run_on P got from (suc count) h = by (newest_of (as_number from) got) refl (run_
     by None e rest = rest
     by (Some b) e rest = (found_on P from got b h e, rest)
 
+-- what holds of bunches holds of those kept
 pub kept_on : (P : Bunch → Type 0) (xs kept : List Bunch) → AllByRecursion P kept → AllByRecursion P xs → AllByRecursion P (kept_after kept xs)
 kept_on P [] kept k h = k
 kept_on P (x ∷ xs) kept k h =
     cond_both (ends_payload x) (kept_after [] xs) (kept_after (x ∷ kept) xs) (AllByRecursion P) (λ e. kept_on P xs [] tt h.1) (λ e. kept_on P xs (x ∷ kept) (h.0, k) h.1)
 
+-- what holds of bunches holds of the first one kept
 pub first_on : (P : Bunch → Type 0) (kept : List Bunch) (b : Bunch) → AllByRecursion P kept → P b → P (first_of kept b)
 first_on P [] b k h = h
 first_on P (x ∷ kept) b k h = first_on P kept x k.1 k.0

@@ -21,6 +21,7 @@ use Rattle.protocol_laws.proofs.Greatest.{among_above}
 
 -- ---- a packet has arrived if its number moved
 
+-- a packet has arrived where its number moved
 pub arrived_is_moved : (past : Past) (n : ℕ) → is_arrived (fate_of past n) ≡ is_among n (moved_of past)
 arrived_is_moved past n = elim (cases_Bool (nat_lt (high_of past) n)) [
   | inl e ↦ rw e (sym (among_above n (moved_of past) (ltb-true (high_of past) n e)))
@@ -36,6 +37,7 @@ by_carrier : (past : Past) (o : Option ℕ) → shows_arrival (option_fate past 
 by_carrier past None = refl
 by_carrier past (Some k) = arrived_is_moved past k
 
+-- a bunch has arrived where its carrier did
 pub arrival_is : (past : Past) (ch n : ℕ) → has_arrived past ch n ≡ carried_among (carrier_of past ch n) (moved_of past)
 arrival_is past ch n = by_carrier past (carrier_of past ch n)
 
@@ -47,12 +49,15 @@ arrival_same past later ch n c m =
 
 -- ---- a message is made
 
+-- making a message moves no number
 pub moved_made : (past : Past) (ch : ℕ) (m : Message) → moved_of (after_making past ch m) ≡ moved_of past
 moved_made past ch m = ap moved_by (made_ignored_all entries_in (λ c n m i. refl) past ch m)
 
+-- making a message carries no bunch
 pub carrier_made : (past : Past) (c : ℕ) (m : Message) (ch n : ℕ) → carrier_of (after_making past c m) ch n ≡ carrier_of past ch n
 carrier_made past c m ch n = ap (λ (ks : List ℕ). slice_get ks 0) (made_ignored (carrier_in ch n) (λ c n m i. refl) past c m)
 
+-- making a message lets nothing arrive
 pub arrival_made : (past : Past) (c : ℕ) (m : Message) (ch n : ℕ) → has_arrived (after_making past c m) ch n ≡ has_arrived past ch n
 arrival_made past c m ch n =
     arrival_same past (after_making past c m) ch n (carrier_made past c m ch n) (moved_made past c m)
@@ -79,6 +84,7 @@ carried_waits end past (Carries c k b ∷ items) ch n all h =
 none_above : (past : Past) (k : ℕ) → ((n : ℕ) → is_among n (moved_of past) ≡ true → n ≤ last_sent past) → last_sent past < k → is_among k (moved_of past) ≡ false
 none_above past k most lt = among_above k (moved_of past) (let le : greatest_of (moved_of past) ≤ last_sent past = greatest_below (moved_of past) (last_sent past) most in omega arith)
 
+-- sending a packet lets nothing arrive
 pub arrival_sent : (end : End) (past : Past) (items : List Item) → ((n : ℕ) → is_among n (moved_of past) ≡ true → n ≤ last_sent past)
     → AllByRecursion (MaySend end past) items → (ch n : ℕ) → has_arrived (after_sending past items) ch n ≡ has_arrived past ch n
 arrival_sent end past items most all ch n = by (list_any (is_carried_as ch n) items) refl
@@ -121,6 +127,7 @@ above_step high last n (pos a) ns e h = by (nat_lt high a) refl h
     ]
     by false q h = inr h
 
+-- where no number is refused, each that a history names is at most the last one sent
 pub named_within : (high last : ℕ) (zs : List ℤ) (c : ℤ → Cause) → newest_of (λ z. then_some (int_lt (pos last) z) (c z)) zs ≡ None
     → (n : ℕ) → is_among n (filter_map (number_above high) zs) ≡ true → (high < n) × (n ≤ last)
 named_within high last [] c h n e = absurd (false≢true e)
@@ -137,6 +144,7 @@ moved_grows entry past n h =
     told_keeps (λ later. is_among n (moved_of later) ≡ true) entry past h
     (λ k es ds before e. among_right (filter_map (number_above (greatest_of (moved_by (es ++ entries_of before)))) (named_by entry (greatest_of (moved_by (es ++ entries_of before))))) (moved_by (es ++ entries_of before)) n e)
 
+-- hearing an entry carries no bunch
 pub carrier_told : (entry : Entry) (past : Past) (ch n : ℕ) → carrier_of (with_told entry past) ch n ≡ carrier_of past ch n
 carrier_told entry past ch n = ap (λ (ks : List ℕ). slice_get ks 0) (told_ignored (carrier_in ch n) (λ n e es ds. refl) entry past)
 
@@ -153,6 +161,7 @@ arrival_told entry past ch n h =
 
 -- ---- a payload is handed on
 
+-- handing a payload on lets nothing arrive
 pub arrival_handed : (d : Delivered) (past : Past) (ch n : ℕ) → has_arrived (with_handed d past) ch n ≡ has_arrived past ch n
 arrival_handed d past ch n =
     arrival_same past (with_handed d past) ch n

@@ -48,6 +48,7 @@ pub record BytesOf (end : End) (past : Past) (k : ℕ) (bytes : List ℕ) : Type
 same_bytes : (end : End) (past later : Past) (k : ℕ) (bytes : List ℕ) → last_sent later ≡ last_sent past → packet_at end later k ≡ packet_at end past k → BytesOf end past k bytes → BytesOf end later k bytes
 same_bytes end past later k bytes l s b = record { last = omega (arith, b.last, l); packet = b.packet; sent = s ∙ b.sent; spelled = b.spelled }
 
+-- the j-th datagram sent is packet j + 1
 pub bytes_of_sent : (end : End) (past : Past) → DeedsFit end past → (j : ℕ) (bytes : List ℕ) → slice_get (sent_bytes end past) j ≡ Some bytes → BytesOf end past (j + 1) bytes
 bytes_of_sent end [] fit j bytes h = absurd (let never : (let o : Option (List ℕ) = None in o) ≡ Some bytes = h in cc)
 bytes_of_sent end (Ticked t s ∷ past) fit j bytes h = same_bytes end past (Ticked t s ∷ past) (j + 1) bytes refl refl (bytes_of_sent end past fit.1 j bytes h)

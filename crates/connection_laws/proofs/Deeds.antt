@@ -42,6 +42,7 @@ one_more end past ch m i before lt h =
       part_follows past ch m i before,
     )
 
+-- the parts of a message fit those before them
 pub making_fits : (end : End) (past : Past) (ch : ℕ) (m : Message) → DeedsFit end past → DeedsFit end (after_making past ch m)
 making_fits end past ch m h =
     (making_keeps (IsMadeUpTo end past ch m) past ch m (h, omega arith, tt) (λ i before lt p. one_more end past ch m i before lt p)).0

@@ -21,24 +21,31 @@ use Rattle.connection_laws.proofs.Arrivals.{moved_made, named_within, carried_wa
 
 -- ---- what stays
 
+-- making a message sends nothing
 pub last_sent_made : (past : Past) (ch : ℕ) (m : Message) → last_sent (after_making past ch m) ≡ last_sent past
 last_sent_made past ch m = ap greatest_of (made_ignored sent_in (λ c n m i. refl) past ch m)
 
+-- hearing an entry sends nothing
 pub last_sent_told : (entry : Entry) (past : Past) → last_sent (with_told entry past) ≡ last_sent past
 last_sent_told entry past = ap greatest_of (told_ignored sent_in (λ n e es ds. refl) entry past)
 
+-- handing a payload on sends nothing
 pub last_sent_handed : (d : Delivered) (past : Past) → last_sent (with_handed d past) ≡ last_sent past
 last_sent_handed d past = ap greatest_of (handed_ignored sent_in (λ n es d ds. refl) d past)
 
+-- handing a payload on moves no number
 pub moved_handed : (d : Delivered) (past : Past) → moved_of (with_handed d past) ≡ moved_of past
 moved_handed d past = ap moved_by (handed_ignored_all entries_in (λ n es d ds. refl) d past)
 
+-- hearing an entry makes nothing
 pub made_count_told : (entry : Entry) (past : Past) (ch : ℕ) → made_count (with_told entry past) ch ≡ made_count past ch
 made_count_told entry past ch = ap greatest_of (told_ignored (made_on ch) (λ n e es ds. refl) entry past)
 
+-- handing a payload on makes nothing
 pub made_count_handed : (d : Delivered) (past : Past) (ch : ℕ) → made_count (with_handed d past) ch ≡ made_count past ch
 made_count_handed d past ch = ap greatest_of (handed_ignored (made_on ch) (λ n es d ds. refl) d past)
 
+-- handing a payload on carries no bunch
 pub carrier_handed : (d : Delivered) (past : Past) (ch n : ℕ) → carrier_of (with_handed d past) ch n ≡ carrier_of past ch n
 carrier_handed d past ch n = ap (λ (ks : List ℕ). slice_get ks 0) (handed_ignored (carrier_in ch n) (λ n es d ds. refl) d past)
 
@@ -60,6 +67,7 @@ moves_told entry (Took k es ds ∷ past) may h n e =
     ]
 moves_told entry past may h n e = h n e
 
+-- what moved was sent
 pub moves_sent : (end : End) (past : Past) → IsRun end past → MovesSent past
 moves_sent end past run = always end MovesSent (λ n h. absurd (false≢true h)) step past run
   where
@@ -76,6 +84,7 @@ moves_sent end past run = always end MovesSent (λ n h. absurd (false≢true h))
         moves_like past (with_handed d past) (moved_handed d past) (omega (arith, last_sent_handed d past)) h
     step past (Ends ending) run alive may h = h
 
+-- the greatest number that moved was sent
 pub high_sent : (past : Past) → MovesSent past → high_of past ≤ last_sent past
 high_sent past h = greatest_below (moved_of past) (last_sent past) (λ n e. (h n e).1)
 
@@ -91,6 +100,7 @@ IsFew past = unresolved_count past ≤ 4096
 few_like : (past later : Past) → last_sent later ≡ last_sent past → high_of past ≤ high_of later → IsFew past → IsFew later
 few_like past later s le h = omega arith
 
+-- in a run at most 4,096 packets are open
 pub few_open : (end : End) (past : Past) → IsRun end past → IsFew past
 few_open end past run = always end IsFew (omega arith) step past run
   where
@@ -129,6 +139,7 @@ carries_sent end past items may h ch n k e = by (list_any (is_carried_as ch n) i
         h ch n k (sym (newest_miss (carrier_in ch n) (Sent (last_sent past + 1) (tick_count past) items) past (ap (λ t. then_some t (last_sent past + 1)) q)) ∙ e) in
         (b.0, b.1, b.2, omega (arith, b.3, last_sent_sent past items))
 
+-- what was carried was made, and its carrier was sent
 pub carries_made : (end : End) (past : Past) → IsRun end past → CarriesMade past
 carries_made end past run = always end CarriesMade (λ ch n k e. absurd (none_some k e)) step past run
   where
@@ -150,6 +161,7 @@ carries_made end past run = always end CarriesMade (λ ch n k e. absurd (none_so
 
 -- ---- all
 
+-- what an end knows of its packets lies within what it sent
 pub fates_fit : (end : End) (past : Past) → IsRun end past → FatesFit past
 fates_fit end past run =
     record {

@@ -14,6 +14,7 @@ event_done end past (Tick sight) h = tick_runs end (IsRun end) (runs_go end) pas
 event_done end past (Got bytes) h = datagram_runs end past bytes h
 event_done end past (Call a n args) h = call_runs end (IsRun end) (runs_go end) past h a n args
 
+-- the past of a feed is a run with a fate free
 pub feed_done : (end : End) (feed : List Event) → IsDone (IsRun end) (past_of end feed)
 feed_done end [] = record { run = start; few = λ e. omega arith }
 feed_done end (event ∷ feed) = event_done end (past_of end feed) event (feed_done end feed)

@@ -91,6 +91,7 @@ bunch_says end past kept b o e = by (lacks_copy end.side past kept b) e
 abbrev handing : Past → List Delivered → Past
 handing past news = fold (λ (p : Past) (d : Delivered). with_handed d p) past news
 
+-- these whole payloads were handed on between two pasts
 pub record Handed (end : End) (past later : Past) (wholes : List (Bunch × List Bool)) : Type 0 where
   pub news : List Delivered
   pub is : later ≡ handing past news
@@ -199,12 +200,15 @@ reads_elsewhere end ch other (d ∷ ds) (w ∷ ws) ne h k =
 
 -- ---- one bunch is heard
 
+-- a reliable bunch of the index is received there
 pub entry_here : (got : List Received) (ch : ℕ) (b : Bunch) → b.reliable ≡ true → b.channel ≡ ch → with_entry got ch (Heard b) ≡ with_bunch got b
 entry_here got ch b r c = ap (λ (t : Bool). cond t (with_bunch got b) got) (and_from b.reliable (b.channel == ch) r (eq-eqb b.channel ch c))
 
+-- a bunch of another index is not
 pub entry_elsewhere : (got : List Received) (ch : ℕ) (b : Bunch) → (b.channel ≡ ch → ⊥) → with_entry got ch (Heard b) ≡ got
 entry_elsewhere got ch b ne = ap (λ (t : Bool). cond t (with_bunch got b) got) (and_right b.reliable (b.channel == ch) (ne_eqb b.channel ch ne))
 
+-- an unreliable bunch is not
 pub entry_loose : (got : List Received) (ch : ℕ) (b : Bunch) → b.reliable ≡ false → with_entry got ch (Heard b) ≡ got
 entry_loose got ch b r = ap (λ (t : Bool). cond t (with_bunch got b) got) (and_left b.reliable (b.channel == ch) r)
 
@@ -401,6 +405,7 @@ still_goes end before past (Ends g) quiet h alive may = (does (Ends g) h.0 alive
 stills : (end : End) (before : Past) → Goes end (λ (past : Past). IsRun end past × Still before past)
 stills end before = record { is_run = λ past h. h.0; goes = still_goes end before }
 
+-- what was handed on stays, while nothing is received
 pub still_hands : (end : End) (before past : Past) → Still before past → HandsReceived end before → HandsReceived end past
 still_hands end before past s y ch =
     subst (λ (es : List Entry). ReadEach end (handed_reliably past ch) (wholes_from [] (applied_of (received_by es ch)))) (sym s.entries)

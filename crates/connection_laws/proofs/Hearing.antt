@@ -62,6 +62,7 @@ entry_names end past (Told head) e = e
 entry_names end past (Acked n) e = e
 entry_names end past (Heard b) e = refl
 
+-- hearing entries goes on with a run
 pub entries_run : (end : End) (past : Past) (entries : List Entry) → IsLiveRun (IsRun end) past → IsDone (IsRun end) (after_entries end past entries)
 entries_run end past [] h = live_done (IsRun end) past h
 entries_run end past (entry ∷ more) h =
@@ -76,6 +77,7 @@ entries_run end past (entry ∷ more) h =
 
 -- ---- a packet
 
+-- a number above the greatest one is new
 pub new_number : (top : ℕ) (z : ℤ) → int_lt (pos top) z ≡ true → top < unsigned_abs z
 new_number top (pos n) e = ltb-true top n e
 new_number top (negsuc n) e = absurd (false≢true e)
@@ -88,6 +90,7 @@ begun_runs end past p h e = record {
   few = h.few;
 }
 
+-- hearing a packet goes on with a run
 pub packet_runs : (end : End) (past : Past) (p : Packet) → IsLiveRun (IsRun end) past → is_new past p.number ≡ true → IsDone (IsRun end) (after_packet end past p)
 packet_runs end past p h e =
     entries_run end (Took (unsigned_abs (number_near past p.number)) [] [] ∷ past) (entries_in end.version p) (begun_runs end past p h e)

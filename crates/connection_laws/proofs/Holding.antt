@@ -46,15 +46,18 @@ among_each_once (x ∷ xs) n h = elim (cases_Bool (is_among x xs)) [
   ])
 ]
 
+-- what is among numbers is among them in order
 pub among_ascending : (xs : List ℕ) (n : ℕ) → is_among n xs ≡ true → is_among n (ascending_numbers xs) ≡ true
 among_ascending xs n h = among_in_order nat_lt (each_once xs) n (among_each_once xs n h)
 
 -- ---- so many numbers take so much room
 
+-- the list without the first place of a number
 abbrev pub without : ℕ → List ℕ → List ℕ
 without k [] = []
 without k (n ∷ ns) = cond (n == k) ns (n ∷ without k ns)
 
+-- it is shorter by one
 pub without_shorter : (k : ℕ) (ns : List ℕ) → is_among k ns ≡ true → length ns ≡ suc (length (without k ns))
 without_shorter k [] h = absurd (false≢true h)
 without_shorter k (n ∷ ns) h = elim (cases_Bool (n == k)) [
@@ -72,6 +75,7 @@ without_keeps k i (n ∷ ns) ne h = elim (cases_Bool (n == k)) [
   | inr e ↦ rw e (elim (among_cons n ns i h) [ inl q ↦ among_here n (without k ns) i q | inr q ↦ among_there n (without k ns) i (without_keeps k i ns ne q) ])
 ]
 
+-- a list that has the numbers 1 to k has at least k items
 pub room_taken : (k : ℕ) (ns : List ℕ) → ((i : ℕ) → 1 ≤ i → i ≤ k → is_among i ns ≡ true) → k ≤ length ns
 room_taken zero ns h = omega arith
 room_taken (suc k) ns h =
@@ -84,6 +88,7 @@ room_taken (suc k) ns h =
 
 -- ---- a mark was made on its index
 
+-- the index of a mark is used
 pub mark_used : (a : ℕ) (past : Past) (mark : Mark) → last_mark past a ≡ Some mark → is_among mark.channel (filter_map channel_in past) ≡ true
 mark_used a [] mark e = absurd (let no : (let o : Option Mark = None in o) ≡ Some mark = e in cc)
 mark_used a (Made ch n m i ∷ past) mark e = by ((actor_of m == a) && is_mark m && (i == 0)) e (λ q. mark_used a past mark q)
@@ -114,6 +119,7 @@ index_marked past a ch e = by (holds_index (state_of past a)) (last_mark past a)
     by true None q e = absurd (let no : (let o : Option ℕ = None in o) ≡ Some ch = e in cc)
     by false o q e = absurd (let no : (let o : Option ℕ = None in o) ≡ Some ch = e in cc)
 
+-- an actor that is said to hold an index holds it
 pub holds_is : (past : Past) (a ch : ℕ) → holds past a ch ≡ true → index_of past a ≡ Some ch
 holds_is past a ch e = by (index_of past a) refl e
   where
@@ -146,6 +152,7 @@ not_free_used past ch e = among_ascending (filter_map channel_in past) ch (used 
     used true q e = held_used past ch (opened_actors past) q
     used false q e = spans (is_among ch (filter_map channel_in past)) refl e
 
+-- the free index is free
 pub free_index_is_free : (past : Past) → is_free past (free_index past) ≡ true
 free_index_is_free past = elim (least_end (is_free past) (length (channels_of past)) 1) [
   | inl e ↦ e
@@ -164,11 +171,13 @@ free_index_is_free past = elim (least_end (is_free past) (length (channels_of pa
       | inr q ↦ least_below (is_free past) (length (channels_of past)) 1 i lo (omega (arith, q, e))
     ]
 
+-- nobody holds the index, all on it has arrived, and it is above 0
 pub record IsFree (past : Past) (ch : ℕ) : Type 0 where
   pub low : 1 ≤ ch
   pub held : is_held past ch ≡ false
   pub clear : span past ch ≡ 0
 
+-- the free index is so
 pub free_index_fits : (past : Past) → IsFree past (free_index past)
 free_index_fits past =
     let both : (not (is_held past (free_index past)) ≡ true) × ((span past (free_index past) == 0) ≡ true) =

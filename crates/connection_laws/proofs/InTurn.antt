@@ -20,6 +20,7 @@ use Rattle.connection_laws.proofs.Prefixes.{messages_made}
 
 -- ---- an actor whose last mark is its open
 
+-- the actor's last mark is an open on the index
 pub record OpenMark (past : Past) (b ch : ℕ) : Type 0 where
   pub mark : Mark
   pub last : last_mark past b ≡ Some mark
@@ -80,6 +81,7 @@ held_open past b ch i e = by (last_mark past b) refl
 
 -- ---- who uses an index
 
+-- the user of an index, by its messages, is the actor that is open there
 pub record Users (past : Past) : Type 0 where
   pub marked : (ch b : ℕ) → user_of (on_index ch past) ≡ Some b → OpenMark past b ch
   pub used : (ch b : ℕ) → OpenMark past b ch → user_of (on_index ch past) ≡ Some b

@@ -48,14 +48,17 @@ use Rattle.protocol_laws.proofs.Greatest.{greatest_of-cons}
 
 -- ---- all of a list
 
+-- what follows of each item follows of all
 pub all_weaker : {A : Type 0} (P Q : A → Type 0) → ((x : A) → P x → Q x) → (xs : List A) → AllByRecursion P xs → AllByRecursion Q xs
 all_weaker P Q h [] all = tt
 all_weaker P Q h (x ∷ xs) all = (h x all.0, all_weaker P Q h xs all.1)
 
+-- what holds of two lists holds of both in a row
 pub all_append : {A : Type 0} (P : A → Type 0) (xs ys : List A) → AllByRecursion P xs → AllByRecursion P ys → AllByRecursion P (xs ++ ys)
 all_append P [] ys a b = b
 all_append P (x ∷ xs) ys a b = (a.0, all_append P xs ys a.1 b)
 
+-- what holds of each part holds of all parts in a row
 pub all_flat : {A B : Type 0} (P : B → Type 0) (f : A → List B) → ((x : A) → AllByRecursion P (f x)) → (xs : List A) → AllByRecursion P (flat_map f xs)
 all_flat P f h [] = tt
 all_flat P f h (x ∷ xs) = all_append P (f x) (flat_map f xs) (h x) (all_flat P f h xs)
@@ -70,6 +73,7 @@ made_same ch n m i past =
     both : (a b : Bool) → a ≡ true → b ≡ true → (a && b) ≡ true
     both a b p q = grind arith
 
+-- a bunch is found behind another one
 pub made_other : (ch n c k : ℕ) (m : Message) (i : ℕ) (past : Past) → ((c ≡ ch) → (k ≡ n) → ⊥) → newest_of (made_as ch n) (Made c k m i ∷ past) ≡ newest_of (made_as ch n) past
 made_other ch n c k m i past h = newest_miss (made_as ch n) (Made c k m i) past (ap (λ b. then_some b (made_bunch c k m i)) test)
   where
@@ -168,6 +172,7 @@ copies_made : (past : Past) (c : ℕ) (m : Message) (a : ℕ) → copy_channel (
 copies_made past c m a =
     ap (λ (ds : List Delivered). unwrap_or (newest_of (channel_said a) (items_since (removes a) ds)) None) (made_ignored_all handed_in (λ c n m i. refl) past c m)
 
+-- what may be sent still may after an open is made
 pub may_send_made : (end : End) (past : Past) (c : ℕ) (m : Message) → MayMake end past c m → is_opening m ≡ true → (item : Item) → MaySend end past item → MaySend end (after_making past c m) item
 may_send_made end past c m may o (Owed n) h = ap (is_among n) (taken_made past c m) ∙ h
 may_send_made end past c m may o (Carries ch n b) h = record {
@@ -188,6 +193,7 @@ may_send_made end past c m may o (Loose message b) h = (
     unmarked_stays : (a : ℕ) → marks a m ≡ false → last_mark (after_making past c m) a ≡ last_mark past a
     unmarked_stays a q = mark_made past c m a ∙ ap (λ (b : Bool). cond b (Some (record { channel = c; number = made_count past c + 1; message = m })) (last_mark past a)) q
 
+-- and after a packet is sent
 pub may_send_sent : (end : End) (past : Past) (items : List Item) → MovesSent past → AllByRecursion (MaySend end past) items → (item : Item) → MaySend end past item → MaySend end (after_sending past items) item
 may_send_sent end past items moved all (Owed n) h = h
 may_send_sent end past items moved all (Carries ch n b) h = record {
@@ -230,6 +236,7 @@ due_option : (o : Option Fate) → shows_need o ≡ true → shows_arrival o ≡
 due_option None e = refl
 due_option (Some fate) e = due_fate fate e
 
+-- a bunch that is due has not arrived
 pub due_unarrived : (past : Past) (ch n : ℕ) → is_due past ch n ≡ true → has_arrived past ch n ≡ false
 due_unarrived past ch n e = due_option (option_fate past (carrier_of past ch n)) e
 
@@ -251,6 +258,7 @@ due_range end past ch from (suc count) lo hi =
     (λ ns. AllByRecursion (MayGo end past) (filter_map (carrying_item past ch) ns))
     (λ e. carrying_may end past ch from (filter_map (carrying_item past ch) (filter (is_due past ch) (range_with_len (from + 1) count))) lo (omega arith) e rest) (λ e. rest)
 
+-- each due item may go
 pub due_may_go : (end : End) (past : Past) → AllByRecursion (MayGo end past) (due_items past)
 due_may_go end past = all_flat (MayGo end past) (due_on past) (λ ch. due_range end past ch 1 (made_count past ch) (omega arith) (omega arith)) (channels_of past)
 
@@ -264,6 +272,7 @@ WaitsLoose past (Gone a) = ⊥
 WaitsLoose past (Updates a class values) = ⊥
 WaitsLoose past (Calls a n call args) = (call.reliable ≡ false) × HasWaited past (Calls a n call args)
 
+-- a message still waits where those that wait are the same
 pub waits_like : (past later : Past) → filter_map waits_in later ≡ filter_map waits_in past → (m : Message) → WaitsLoose past m → WaitsLoose later m
 waits_like past later e (Opens exports a class values) q = q
 waits_like past later e (Closes a sleeps) q = q
@@ -278,6 +287,7 @@ loose_call end past ch (Gone a) q e = q
 loose_call end past ch (Updates a class values) q e = absurd q
 loose_call end past ch (Calls a n call args) q e = (q.0, e, q.1)
 
+-- each call that waited may go
 pub calls_may_go : (end : End) (past : Past) (ms : List Message) → AllByRecursion (WaitsLoose past) ms → AllByRecursion (MayGo end past) (filter_map (call_item end.side past) ms)
 calls_may_go end past [] h = tt
 calls_may_go end past (m ∷ ms) h = by (call_channel end.side past (actor_of m)) refl (calls_may_go end past ms h.1)
@@ -307,24 +317,29 @@ since_loose end whole (Sent n t items ∷ past) newer e fit = since_loose end wh
 since_loose end whole (Took n es ds ∷ past) newer e fit = since_loose end whole past newer e fit.1
 since_loose end whole (Ended g ∷ past) newer e fit = since_loose end whole past newer e fit.1
 
+-- what holds of a list holds of it reversed
 pub all_reverse : {A : Type 0} (P : A → Type 0) (xs : List A) → AllByRecursion P xs → AllByRecursion P (reverse xs)
 all_reverse P [] h = tt
 all_reverse P (x ∷ xs) h = subst (AllByRecursion P) (sym (reverse-append (x ∷ []) xs)) (all_append P (reverse xs) (x ∷ []) (all_reverse P xs h.1) (h.0, tt))
 
+-- each message that waits is an unreliable call
 pub waiting_loose : (end : End) (past : Past) → DeedsFit end past → AllByRecursion (WaitsLoose past) (waiting_of past)
 waiting_loose end past fit = all_reverse (WaitsLoose past) (filter_map waits_in (deeds_since_tick past)) (since_loose end past past [] refl fit)
 
 -- ---- numbers that ascend
 
+-- ascending numbers ascend without one of them
 pub ascends_drop : (low : ℕ) (xs : List ℕ) (n : ℕ) (ys : List ℕ) → Ascends low (xs ++ n ∷ ys) → Ascends low (xs ++ ys)
 ascends_drop low [] n [] h = tt
 ascends_drop low [] n (y ∷ ys) h = (omega (arith, h.0, h.1.0), h.1.1)
 ascends_drop low (x ∷ xs) n ys h = (h.0, ascends_drop x xs n ys h.1)
 
+-- so does a prefix of them
 pub ascends_first : (low : ℕ) (xs ys : List ℕ) → Ascends low (xs ++ ys) → Ascends low xs
 ascends_first low [] ys h = tt
 ascends_first low (x ∷ xs) ys h = (h.0, ascends_first x xs ys h.1)
 
+-- and the rest, above the prefix
 pub ascends_rest : (low : ℕ) (xs ys : List ℕ) → Ascends low (xs ++ ys) → Ascends (max low (greatest_of xs)) ys
 ascends_rest low [] ys h = (let e : max low (greatest_of []) ≡ low = omega arith in rw e h)
 ascends_rest low (x ∷ xs) ys h =
@@ -333,21 +348,25 @@ ascends_rest low (x ∷ xs) ys h =
 
 -- ---- in either version
 
+-- acknowledgements without one of them
 pub told_drop : (v : Version) (low : ℕ) (xs : List ℕ) (n : ℕ) (ys : List ℕ) → Acknowledges v low (xs ++ n ∷ ys) → Acknowledges v low (xs ++ ys)
 told_drop One low xs n ys h = ascends_drop low xs n ys h
 told_drop Two low [] n ys h = absurd (let no : n ∷ ys ≡ [] = h in cc)
 told_drop Two low (x ∷ xs) n ys h = absurd (let no : x ∷ (xs ++ n ∷ ys) ≡ [] = h in cc)
 
+-- a prefix of acknowledgements
 pub told_first : (v : Version) (low : ℕ) (xs ys : List ℕ) → Acknowledges v low (xs ++ ys) → Acknowledges v low xs
 told_first One low xs ys h = ascends_first low xs ys h
 told_first Two low [] ys h = refl
 told_first Two low (x ∷ xs) ys h = absurd (let no : x ∷ (xs ++ ys) ≡ [] = h in cc)
 
+-- the rest of acknowledgements
 pub told_rest : (v : Version) (low : ℕ) (xs ys : List ℕ) → Acknowledges v low (xs ++ ys) → Acknowledges v (max low (greatest_of xs)) ys
 told_rest One low xs ys h = ascends_rest low xs ys h
 told_rest Two low [] ys h = h
 told_rest Two low (x ∷ xs) ys h = absurd (let no : x ∷ (xs ++ ys) ≡ [] = h in cc)
 
+-- no acknowledgements
 pub told_none : (v : Version) (low : ℕ) → Acknowledges v low []
 told_none One low = tt
 told_none Two low = refl

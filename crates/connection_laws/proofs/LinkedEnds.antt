@@ -39,12 +39,14 @@ use Rattle.connection_laws.proofs.AcksTaken.{done_made, done_told, done_handed, 
 use Rattle.connection_laws.proofs.Transfer.{Way, Transfers, core_start, core_from, core_to, core_takes, core_hears, reads_packet, high_at_most}
 use Rattle.connection_laws.proofs.AcksRead.{Fresh, HeadWaits, left_of, fresh_start, fresh_me, fresh_takes, fresh_other, fresh_sends, Told1, NamesSent, next_one, next_two, next_names_one, next_names_two}
 
+-- what holds of both ways between two ends
 pub record Both (v : Version) (me other : Past) : Type 0 where
   pub out : Transfers v me other
   pub back : Transfers v other me
   pub heard : Fresh v me other
   pub said : Fresh v other me
 
+-- it holds turned round
 pub turned : (v : Version) (me other : Past) → Both v me other → Both v other me
 turned v me other b = record { out = b.back; back = b.out; heard = b.said; said = b.heard }
 
@@ -53,6 +55,7 @@ turned v me other b = record { out = b.back; back = b.out; heard = b.said; said 
 abbrev TellsDone : Past → Type 0
 TellsDone past = (x : ℕ) → is_among x (acknowledged_of past) ≡ true → is_among x (done_of past) ≡ true
 
+-- what is acknowledged was heard to its end
 pub tells_done : (end : End) (past : Past) → IsRun end past → (x : ℕ) → is_among x (acknowledged_of past) ≡ true → is_among x (done_of past) ≡ true
 tells_done end past run = always end TellsDone (λ x h. absurd (false≢true h)) step past run
   where
@@ -86,6 +89,7 @@ left_made v other past ch m =
 received_made : (past : Past) (c : ℕ) (m : Message) (ch : ℕ) → received_on (after_making past c m) ch ≡ received_on past ch
 received_made past c m ch = ap (λ (es : List Entry). received_by es ch) (made_ignored_all entries_in (λ c n m i. refl) past c m)
 
+-- making a message leaves what was the greatest number taken
 pub top_when_made : (past : Past) (c : ℕ) (m : Message) (k : ℕ) → top_when (after_making past c m) k ≡ top_when past k
 top_when_made past c m k = making_keeps (λ i before. top_when before k ≡ top_when past k) past c m refl (λ i before lt e. e)
 
@@ -234,16 +238,19 @@ module _ (v : Version) (mine theirs : End) (mv : mine.version ≡ v) (tv : their
 
 -- ---- all moves
 
+-- the left end's past is a run
 pub left_run : (left right : End) (l r : Past) → IsLink left right l r → IsRun left l
 left_run left right l r start = run_start
 left_run left right l r (left_does {l = a} {r = b} move link alive may honest) = does move (left_run left right a b link) alive may
 left_run left right l r (right_does {l = a} {r = b} move link alive may honest) = left_run left right a b link
 
+-- the right end's past is a run
 pub right_run : (left right : End) (l r : Past) → IsLink left right l r → IsRun right r
 right_run left right l r start = run_start
 right_run left right l r (left_does {l = a} {r = b} move link alive may honest) = right_run left right a b link
 right_run left right l r (right_does {l = a} {r = b} move link alive may honest) = does move (right_run left right a b link) alive may
 
+-- linked ends have both ways
 pub both : (v : Version) (left right : End) → left.version ≡ v → right.version ≡ v → (l r : Past) → IsLink left right l r → Both v l r
 both v left right lv rv l r start = record { out = core_start v; back = core_start v; heard = fresh_start v; said = fresh_start v }
 both v left right lv rv l r (left_does {l = a} {r = b} move link alive may honest) =
@@ -264,6 +271,7 @@ none_above l (pos n ∷ zs) h = ap (λ (b : Bool). slice_get (cons_option (then_
     low : (n : ℕ) → n ≤ l → nat_lt l n ≡ false
     low n q = grind (arith, nat_tests)
 
+-- an entry that the left end hears names packets that it sent
 pub left_names : (left right : End) (k : ℕ) (es : List Entry) (ds : List Delivered) (past r : Past) (entry : Entry) → left.version ≡ right.version → IsLink left right (Took k es ds ∷ past) r → IsNext left.version r (Took k es ds ∷ past) entry
     → ack_cause (Took k es ds ∷ past) entry ≡ None
 left_names left right k es ds past r entry same link next =
@@ -271,6 +279,7 @@ left_names left right k es ds past r entry same link next =
     (names_next left.version left right refl (sym same) r (right_run left right (Took k es ds ∷ past) r link) k es ds past entry (left_run left right (Took k es ds ∷ past) r link)
     (both left.version left right refl (sym same) (Took k es ds ∷ past) r link) next)
 
+-- and one that the right end hears
 pub right_names : (left right : End) (l : Past) (k : ℕ) (es : List Entry) (ds : List Delivered) (past : Past) (entry : Entry) → left.version ≡ right.version → IsLink left right l (Took k es ds ∷ past) → IsNext left.version l (Took k es ds ∷ past) entry
     → ack_cause (Took k es ds ∷ past) entry ≡ None
 right_names left right l k es ds past entry same link next =
@@ -280,6 +289,7 @@ right_names left right l k es ds past entry same link next =
 
 -- ---- the laws
 
+-- numbers are read right one way
 pub reads_right : (v : Version) (end : End) (from to : Past) → IsRun end from → Both v from to → ReadsRight from to
 reads_right v end from to run b = record {
   packet = λ k c. reads_packet v end from to run b.out k c;

@@ -29,21 +29,26 @@ pub record Goes (end : End) (R : Past → Type 0) : Type 0 where
   pub is_run : (past : Past) → R past → IsRun end past
   pub goes : (past : Past) (move : Move) → IsQuiet move → R past → has_ended past ≡ false → May end past move → R (after_move past move)
 
+-- the end is alive, and a fate is free
 pub record IsLiveRun (R : Past → Type 0) (past : Past) : Type 0 where
   pub run : R past
   pub alive : has_ended past ≡ false
   pub few : unresolved_count past < 4096
 
+-- if the end is alive, a fate is free
 pub record IsDone (R : Past → Type 0) (past : Past) : Type 0 where
   pub run : R past
   pub few : has_ended past ≡ false → unresolved_count past < 4096
 
+-- a live run is one that may have ended
 pub live_done : (R : Past → Type 0) (past : Past) → IsLiveRun R past → IsDone R past
 live_done R past h = record { run = h.run; few = λ e. h.few }
 
+-- and the other way round while the end is alive
 pub done_live : (R : Past → Type 0) (past : Past) → IsDone R past → has_ended past ≡ false → IsLiveRun R past
 done_live R past h e = record { run = h.run; alive = e; few = h.few e }
 
+-- a run that has ended
 pub ended_done : (end : End) (R : Past → Type 0) → Goes end R → (past : Past) (ending : Ending) → R past → has_ended past ≡ false → IsDone R (Ended ending ∷ past)
 ended_done end R g past ending run alive = record { run = g.goes past (Ends ending) tt run alive tt; few = λ q. absurd (false≢true (sym q)) }
 
@@ -53,12 +58,15 @@ runs_go end = record { is_run = λ past run. run; goes = λ past move quiet run 
 
 -- ---- moves
 
+-- making a message ends no end
 pub alive_made : (past : Past) (ch : ℕ) (m : Message) → has_ended past ≡ false → has_ended (after_making past ch m) ≡ false
 alive_made past ch m h = making_keeps (λ i before. has_ended before ≡ false) past ch m h (λ i before lt e. e)
 
+-- making a message opens no fate
 pub unresolved_made : (past : Past) (ch : ℕ) (m : Message) → unresolved_count (after_making past ch m) ≡ unresolved_count past
 unresolved_made past ch m = omega (arith, last_sent_made past ch m, ap greatest_of (moved_made past ch m))
 
+-- making a message goes on with a live run
 pub live_made : (end : End) (R : Past → Type 0) → Goes end R → (past : Past) (ch : ℕ) (m : Message) → IsLiveRun R past → MayMake end past ch m → IsLiveRun R (after_making past ch m)
 live_made end R g past ch m h may = record {
   run = g.goes past (Makes ch m) tt h.run h.alive may;
@@ -66,9 +74,11 @@ live_made end R g past ch m h may = record {
   few = omega (arith, unresolved_made past ch m, h.few);
 }
 
+-- handing a payload on ends no end
 pub alive_handed : (d : Delivered) (past : Past) → has_ended past ≡ false → has_ended (with_handed d past) ≡ false
 alive_handed d past h = handed_keeps (λ later. has_ended later ≡ false) d past h (λ n es ds before e. e)
 
+-- hearing an entry goes on with a live run
 pub live_told : (end : End) (past : Past) (entry : Entry) → IsLiveRun (IsRun end) past → ack_cause past entry ≡ None → IsLiveRun (IsRun end) (with_told entry past)
 live_told end past entry h may = record {
   run = does (Hears entry) h.run h.alive may;
@@ -76,6 +86,7 @@ live_told end past entry h may = record {
   few = omega (arith, h.few, last_sent_told entry past, high_told entry past);
 }
 
+-- handing a payload on goes on with a live run
 pub live_handed : (end : End) (past : Past) (d : Delivered) → IsLiveRun (IsRun end) past → IsLiveRun (IsRun end) (with_handed d past)
 live_handed end past d h = record {
   run = does (Hands d) h.run h.alive tt;

@@ -32,6 +32,7 @@ but_here c f = ap (λ (b : Bool). if b then 0 else f c) (eq-eqb c c refl)
 but_there : (c : ℕ) (f : ℕ → ℕ) (n : ℕ) → (c ≡ n → ⊥) → but c f n ≡ f n
 but_there c f n ne = ap (λ (b : Bool). if b then 0 else f n) (ne_eqb n c (λ e. ne (sym e)))
 
+-- a sum over numbers is at most one over those among which all that count are
 pub sum_within : (ms ns : List ℕ) (f g : ℕ → ℕ) → ((n : ℕ) → f n ≤ g n) → ((n : ℕ) → is_among n ms ≡ false → f n ≡ 0) → sum_once f ns ≤ sum_once g ms
 sum_within ms [] f g h none = omega arith
 sum_within ms (c ∷ ns) f g h none = by (is_among c ns) refl (sum_within ms ns f g h none) (sum_within ms ns (but c f) (but c g) less fewer)
@@ -67,6 +68,7 @@ sum_within ms (c ∷ ns) f g h none = by (is_among c ns) refl (sum_within ms ns 
 
 -- ---- different numbers take room
 
+-- no number stands twice
 abbrev pub AreDistinct : List ℕ → Type 0
 AreDistinct [] = Unit {0}
 AreDistinct (n ∷ ns) = (is_among n ns ≡ false) × AreDistinct ns
@@ -94,6 +96,7 @@ without_it k (x ∷ ns) d h =
     cond_both (x == k) ns (x ∷ without k ns) (λ (l : List ℕ). is_among k l ≡ true → ⊥) (λ e q. false≢true (sym (subst (λ (y : ℕ). is_among y ns ≡ false) (eqb-true x k e) d.0) ∙ q))
     (λ e q. elim (among_cons x (without k ns) k q) [ inl r ↦ eqb-false x k e r | inr r ↦ without_it k ns d.1 r ]) h
 
+-- different numbers in a row of so many are at most as many
 pub distinct_fit : (room a : ℕ) (ns : List ℕ) → AreDistinct ns → ((n : ℕ) → is_among n ns ≡ true → (a < n) × (n ≤ a + room)) → length ns ≤ room
 distinct_fit zero a [] d h = omega arith
 distinct_fit zero a (n ∷ ns) d h = (let b : (a < n) × (n ≤ a + 0) = h n (among_here n ns n refl) in absurd (omega (arith, b.0, b.1)))

@@ -19,6 +19,7 @@ use Rattle.protocol_laws.proofs.Greatest.{greatest_of-append, greatest_of-cons}
 
 -- ---- the numbers taken
 
+-- the numbers taken ascend
 pub taken_falls : (end : End) (past : Past) → IsRun end past → Falls (taken_of past)
 taken_falls end past run = always end (λ p. Falls (taken_of p)) tt step past run
   where
@@ -46,6 +47,7 @@ since_begins {A = A} test (x ∷ xs) = by (test x) refl (since_begins test xs)
     by true e h = (x ∷ xs, rw e refl)
     by false e h = (h.0, rw e (ap (λ (l : List A). x ∷ l) h.1))
 
+-- what was taken since the tick is the newest part of what was taken
 pub taken_since_begins : (past : Past) → (rest : List ℕ) × (taken_of past ≡ taken_of (deeds_since_tick past) ++ rest)
 taken_since_begins past =
     let s : (rest : Past) × (past ≡ items_since is_tick past ++ rest) = since_begins is_tick past in
@@ -83,6 +85,7 @@ among_reverse (x ∷ xs) n h = elim (among_append (reverse xs) (x ∷ []) n (ap 
 among_take : (k : ℕ) (xs : List ℕ) (n : ℕ) → is_among n (take k xs) ≡ true → is_among n xs ≡ true
 among_take k xs n h = ap (is_among n) (sym (take-append-drop k xs)) ∙ among_left (take k xs) (drop k xs) n h
 
+-- what a tick owes ascends, above all that was acknowledged
 pub owed_ascends : (end : End) (past : Past) → IsRun end past → (v : Version) → Acknowledges v (greatest_of (acknowledged_of past)) (owed_of v past)
 owed_ascends end past run Two = refl
 owed_ascends end past run One =
@@ -108,6 +111,7 @@ owed_ascends end past run One =
             falls_positive [] n h e = absurd (false≢true e)
             falls_positive (k ∷ ns) n h e = elim (among_cons k ns n e) [ inl q ↦ omega (arith, h.0) | inr q ↦ falls_positive ns n h.1 q ]
 
+-- what a tick owes was taken
 pub owed_taken_before : (past : Past) (v : Version) (n : ℕ) → is_among n (owed_of v past) ≡ true → is_among n (taken_of past) ≡ true
 owed_taken_before past Two n h = absurd (false≢true h)
 owed_taken_before past One n h =
@@ -115,6 +119,7 @@ owed_taken_before past One n h =
     ap (is_among n) begins.1
     ∙ among_left (taken_of (deeds_since_tick past)) begins.0 n (among_take 512 (taken_of (deeds_since_tick past)) n (among_reverse (take 512 (taken_of (deeds_since_tick past))) n h))
 
+-- so each of it may be acknowledged
 pub owed_may_go : (end : End) (past : Past) (ns : List ℕ) → ((n : ℕ) → is_among n ns ≡ true → is_among n (taken_of past) ≡ true) → AllByRecursion (MaySend end past) (map (λ (n : ℕ). Owed n) ns)
 owed_may_go end past [] h = tt
 owed_may_go end past (n ∷ ns) h = (h n (among_here n ns n refl), owed_may_go end past ns (λ k e. h k (among_there n ns k e)))

@@ -25,27 +25,33 @@ use Rattle.protocol_laws.proofs.Greatest.{greatest_of-cons}
 
 -- ---- items of a list
 
+-- the item is in the list
 abbrev pub IsIn : {A : Type 0} → A → List A → Type 0
 IsIn x [] = ⊥
 IsIn x (y ∷ ys) = (y ≡ x) ⊎ IsIn x ys
 
+-- what is in the first is in both
 pub in_left : {A : Type 0} (x : A) (ys zs : List A) → IsIn x ys → IsIn x (ys ++ zs)
 in_left x [] zs h = absurd h
 in_left x (y ∷ ys) zs (inl e) = inl e
 in_left x (y ∷ ys) zs (inr h) = inr (in_left x ys zs h)
 
+-- what is in the second is in both
 pub in_right : {A : Type 0} (x : A) (ys zs : List A) → IsIn x zs → IsIn x (ys ++ zs)
 in_right x [] zs h = h
 in_right x (y ∷ ys) zs h = inr (in_right x ys zs h)
 
+-- what is in both is in one of them
 pub in_either : {A : Type 0} (x : A) (ys zs : List A) → IsIn x (ys ++ zs) → IsIn x ys ⊎ IsIn x zs
 in_either x [] zs h = inr h
 in_either x (y ∷ ys) zs (inl e) = inl (inl e)
 in_either x (y ∷ ys) zs (inr h) = elim (in_either x ys zs h) [ inl q ↦ inl (inr q) | inr q ↦ inr q ]
 
+-- an item is where it stands
 pub in_middle : {A : Type 0} (x : A) (ys zs : List A) → IsIn x (ys ++ x ∷ zs)
 in_middle x ys zs = in_right x ys (x ∷ zs) (inl refl)
 
+-- what holds of all holds of an item
 pub all_at : {A : Type 0} (P : A → Type 0) (x : A) (xs : List A) → AllByRecursion P xs → IsIn x xs → P x
 all_at P x [] all h = absurd h
 all_at P x (y ∷ xs) all (inl e) = subst P e all.0
@@ -61,6 +67,7 @@ held_item x (y ∷ items) (inl e) = inl (same e)
     same e = cc
 held_item x (y ∷ items) (inr h) = inr (held_item x items h)
 
+-- what a packet says besides its head is an item of it
 pub said_item : (v : Version) (past : Past) (items : List Item) (x : Item) → IsIn (SaysItem x) (all_said v past items) → IsIn x items
 said_item One past items x h = held_item x items h
 said_item Two past items x (inl e) = absurd (no e)
@@ -74,28 +81,34 @@ item_held x [] h = absurd h
 item_held x (y ∷ items) (inl e) = inl (ap (λ (item : Item). SaysItem item) e)
 item_held x (y ∷ items) (inr h) = inr (item_held x items h)
 
+-- each item of a packet is said
 pub item_said : (v : Version) (past : Past) (items : List Item) (x : Item) → IsIn x items → IsIn (SaysItem x) (all_said v past items)
 item_said One past items x h = item_held x items h
 item_said Two past items x h = inr (item_held x items h)
 
 -- ---- what stays
 
+-- making a message says nothing
 pub said_made : (v : Version) (past : Past) (ch : ℕ) (m : Message) (k : ℕ) → said_by v (after_making past ch m) k ≡ said_by v past k
 said_made v past ch m k = making_keeps (λ i before. said_by v before k ≡ said_by v past k) past ch m refl (λ i before lt e. e)
 
+-- hearing an entry says nothing
 pub said_told : (v : Version) (entry : Entry) (past : Past) (k : ℕ) → said_by v (with_told entry past) k ≡ said_by v past k
 said_told v entry (Took n es ds ∷ past) k = refl
 said_told v entry past k = refl
 
+-- handing a payload on says nothing
 pub said_handed : (v : Version) (d : Delivered) (past : Past) (k : ℕ) → said_by v (with_handed d past) k ≡ said_by v past k
 said_handed v d (Took n es ds ∷ past) k = refl
 said_handed v d past k = refl
 
+-- a packet says what it said after one more is sent
 pub said_old : (v : Version) (past : Past) (items : List Item) (k : ℕ) → k ≤ last_sent past → said_by v (after_sending past items) k ≡ said_by v past k
 said_old v past items k le = ap (λ (b : Bool). cond b (all_said v past items) (said_by v past k)) (ne_eqb (last_sent past + 1) k (λ q. absurd (omega arith)))
 
 -- ---- a packet that said something was sent
 
+-- a packet that says something was sent
 pub said_sent : (end : End) (v : Version) (past : Past) → DeedsFit end past → (s : Said) (k : ℕ) → IsIn s (said_by v past k) → (1 ≤ k) × (k ≤ last_sent past)
 said_sent end v [] fit s k h = absurd h
 said_sent end v (Ticked t x ∷ past) fit s k h = said_sent end v past fit.1 s k h
@@ -116,6 +129,7 @@ said_sent end v (Sent number t items ∷ past) fit s k h =
 
 -- ---- bunches that were carried
 
+-- a bunch that a packet carried was made, as it was carried, and the packet was sent
 pub record CarriedFacts (past : Past) (ch n k : ℕ) (bunch : Bunch) : Type 0 where
   pub low : 1 ≤ n
   pub high : n ≤ made_count past ch
@@ -127,6 +141,7 @@ carried_any ch n b [] h = absurd h
 carried_any ch n b (item ∷ items) (inl e) = or_left (is_carried_as ch n item) (list_any (is_carried_as ch n) items) (ap (is_carried_as ch n) e ∙ and_from (eqb ch ch) (eqb n n) (eq-eqb ch ch refl) (eq-eqb n n refl))
 carried_any ch n b (item ∷ items) (inr h) = or_right (is_carried_as ch n item) (list_any (is_carried_as ch n) items) (carried_any ch n b items h)
 
+-- this is so of each bunch that a packet says
 pub carried_facts : (end : End) (v : Version) (past : Past) → DeedsFit end past → (ch n k : ℕ) (b : Bunch) → IsIn (SaysItem (Carries ch n b)) (said_by v past k) → CarriedFacts past ch n k b
 carried_facts end v [] fit ch n k b h = absurd h
 carried_facts end v (Ticked t x ∷ past) fit ch n k b h = (let f : CarriedFacts past ch n k b = carried_facts end v past fit.1 ch n k b h in record { low = f.low; high = f.high; made = f.made; carrier = f.carrier })
@@ -211,6 +226,7 @@ carrier_said end v (Sent number t items ∷ past) fit ch n c e = by (list_any (i
 
 -- ---- unreliable bunches
 
+-- an unreliable item has an unreliable bunch
 pub loose_unreliable : (end : End) (v : Version) (past : Past) → DeedsFit end past → (m : Message) (b : Bunch) (k : ℕ) → IsIn (SaysItem (Loose m b)) (said_by v past k) → b.reliable ≡ false
 loose_unreliable end v [] fit m b k h = absurd h
 loose_unreliable end v (Ticked t x ∷ past) fit m b k h = loose_unreliable end v past fit.1 m b k h

@@ -28,6 +28,7 @@ abbrev pub packed : List (List Item) → List Item
 packed [] = []
 packed (current ∷ packets) = packed packets ++ current
 
+-- what was packed so far may be sent, and the rest of the acknowledgements after it
 pub record Packs (end : End) (R : Past → Type 0) (past : Past) (packets : List (List Item)) (rest : List ℕ) : Type 0 where
   pub run : R past
   pub alive : has_ended past ≡ false

@@ -130,6 +130,7 @@ module _ (ch n : ℕ) (m : Message) (few : parts_of m ≤ 10) (rest : List Bunch
             (parts_fit (suc count) (i + 1) (made_bunch ch (n + i) m i ∷ kept) (omega arith) (omega arith) (omega (arith, long))),
       )
 
+-- joining refuses no part of short messages
 pub all_fit : (ch : ℕ) (ms : List Numbered) → AllByRecursion (λ (made : Numbered). length (message_bits made.1) ≤ 70000) ms → JoinsFrom [] (flat_map (bunches_of ch) ms)
 all_fit ch [] h = tt
 all_fit ch (x ∷ ms) h =

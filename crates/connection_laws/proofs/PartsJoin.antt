@@ -19,9 +19,11 @@ use Rattle.connection_laws.proofs.Prefixes.{bunches_of, cut_in_parts}
 
 -- ---- which part is the last
 
+-- the part is the last one of its payload
 abbrev pub ends : Part → Bool
 ends part = elim part [ Whole ↦ true | Last ↦ true | Lone ↦ true | First ↦ false | Middle ↦ false ]
 
+-- the last part ends its payload
 pub last_ends : (p i : ℕ) → i + 1 ≡ p → ends (part_at p i) ≡ true
 last_ends p i e = elim (cases_Bool (p == 1)) [
   | inl q ↦ rw q refl
@@ -31,6 +33,7 @@ last_ends p i e = elim (cases_Bool (p == 1)) [
       rw (q, first, last) refl)
 ]
 
+-- a part before it does not
 pub middle_goes_on : (p i : ℕ) → i + 1 < p → ends (part_at p i) ≡ false
 middle_goes_on p i lt =
     let some : (p == 1) ≡ false = ne_eqb p 1 (λ z. absurd (omega arith)) in
@@ -39,6 +42,7 @@ middle_goes_on p i lt =
       | inr q ↦ (let last : (i + 1 == p) ≡ false = ne_eqb (i + 1) p (λ z. absurd (omega arith)) in rw (q, last) refl)
     ])
 
+-- a message has room in its parts
 pub enough_parts : (m : Message) → length (message_bits m) ≤ 7000 * parts_of m
 enough_parts m = by (length (message_bits m))
   where

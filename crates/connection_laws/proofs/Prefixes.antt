@@ -27,6 +27,7 @@ use Rattle.connection_laws.proofs.Receiving.{Good, below_next, next_low, next_wi
 
 -- ---- numbers in a row
 
+-- a range of numbers is two in a row
 pub range_split : (a n m : ℕ) → range_with_len a (n + m) ≡ range_with_len a n ++ range_with_len (a + n) m
 range_split a zero m = (let e : 0 + m ≡ m = omega arith in let f : a + 0 ≡ a = omega arith in rw (e, f) refl)
 range_split a (suc n) m =
@@ -34,12 +35,14 @@ range_split a (suc n) m =
     let f : a + suc n ≡ (a + 1) + n = omega arith in
     rw (e, f) (ap (λ (l : List ℕ). a ∷ l) (range_split (a + 1) n m))
 
+-- what finds the same in each number of a range finds the same in it
 pub found_same : {A : Type 0} (f g : ℕ → Option A) (a n : ℕ) → ((i : ℕ) → a ≤ i → i < a + n → f i ≡ g i) → filter_map f (range_with_len a n) ≡ filter_map g (range_with_len a n)
 found_same f g a zero h = refl
 found_same f g a (suc n) h = rw (h a (omega arith) (omega arith), found_same f g (a + 1) n (λ i lo hi. h i (omega arith) (omega arith))) refl
 
 -- ---- what was applied
 
+-- the run applied is a prefix of the bunches made
 pub applied_prefix : (past : Past) (ch : ℕ) (got : List Received) → Good (λ n. newest_of (made_as ch n) past) (made_count past ch) got → IsPrefix (applied_of got) (bunches_made past ch)
 applied_prefix past ch got g =
     let next = next_within (λ n. newest_of (made_as ch n) past) (made_count past ch) got g in
@@ -117,6 +120,7 @@ listed_end : (past : Past) (ch c : ℕ) (m : Message) (i : ℕ) (before : Past) 
 listed_end past ch c m zero before lo h = absurd (omega arith)
 listed_end past ch c m (suc i) before lo h = h
 
+-- the messages of an index after one more
 pub messages_made : (past : Past) (ch c : ℕ) (m : Message) → on_index ch (after_making past c m) ≡ cond (c == ch) ((made_count past c + 1, m) ∷ on_index ch past) (on_index ch past)
 messages_made past ch c m =
     listed_end past ch c m (parts_of m) (after_making past c m) (some_parts m)
@@ -144,6 +148,7 @@ cut_like past later c a n h ch =
     ∙ found_same (λ n. newest_of (made_as ch n) later) (λ n. newest_of (made_as ch n) past) 1 (made_count past ch) (λ i lo hi. a ch i) ∙ h ch
     ∙ ap (λ (l : List Numbered). flat_map (bunches_of ch) (reverse l)) (sym (n ch))
 
+-- the bunches made on an index are the parts of its messages
 pub cut_in_parts : (end : End) (past : Past) → IsRun end past → (ch : ℕ) → bunches_made past ch ≡ flat_map (bunches_of ch) (messages_on past ch)
 cut_in_parts end past run = always end IsCut (λ ch. refl) step past run
   where

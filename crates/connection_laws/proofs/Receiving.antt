@@ -22,12 +22,15 @@ has got n = is_among n (numbers_of got)
 
 -- ---- the next number
 
+-- what is below the next number was received
 pub below_next : (got : List Received) (n : ℕ) → 1 ≤ n → n < next_of got → has got n ≡ true
 below_next got n lo hi = not-false (has got n) (least_below (λ k. not (has got k)) (length got) 1 n lo hi)
 
+-- the next number is above 0
 pub next_low : (got : List Received) → 1 ≤ next_of got
 next_low got = least_low (λ k. not (has got k)) (length got) 1
 
+-- the next number was not received
 pub next_new : (got : List Received) → has got (next_of got) ≡ false
 next_new got = elim (least_end (λ k. not (has got k)) (length got) 1) [
   | inl e ↦ not-true (has got (next_of got)) e
@@ -47,6 +50,7 @@ next_new got = elim (least_end (λ k. not (has got k)) (length got) 1) [
 
 -- ---- a bunch whose number is read
 
+-- one more bunch: what was received with it
 pub with_cases : (got : List Received) (b : Bunch) (n : ℕ) → 1 ≤ n → number_as got b ≡ pos n
     → ((with_bunch got b ≡ got) × (has got n ≡ true)) ⊎ ((with_bunch got b ≡ (n, b) ∷ got) × (has got n ≡ false))
 with_cases got b n lo e =
@@ -79,6 +83,7 @@ pub record InSpan (count n : ℕ) : Type 0 where
   pub high : n ≤ count
   pub close : count < n + 256
 
+-- the next number is at most one above those made, and few are between
 pub next_within : (made : ℕ → Option Bunch) (count : ℕ) (got : List Received) → Good made count got → (next_of got ≤ count + 1) × (count < next_of got + 256)
 next_within made count got g = (upper, lower)
   where
@@ -102,6 +107,7 @@ seq_read made count got b n g w e =
 
 -- ---- the list afterwards
 
+-- one more number was received, of a bunch that was made
 pub record After (made : ℕ → Option Bunch) (count : ℕ) (got new : List Received) (n : ℕ) : Type 0 where
   pub good : Good made count new
   pub more : (m : ℕ) → has got m ≡ true → has new m ≡ true
@@ -110,9 +116,11 @@ pub record After (made : ℕ → Option Bunch) (count : ℕ) (got new : List Rec
 as_same : (n : ℕ) (b : Bunch) (got : List Received) → newest_of (as_number n) ((n, b) ∷ got) ≡ Some b
 as_same n b got = newest_hit (as_number n) (n, b) got b (ap (λ (t : Bool). then_some t b) (eq-eqb n n refl))
 
+-- a bunch of another number is found behind one
 pub as_other : (m n : ℕ) (b : Bunch) (got : List Received) → (n ≡ m → ⊥) → newest_of (as_number m) ((n, b) ∷ got) ≡ newest_of (as_number m) got
 as_other m n b got ne = newest_miss (as_number m) (n, b) got (ap (λ (t : Bool). then_some t b) (ne_eqb n m ne))
 
+-- a bunch whose number is read right is received as it was made
 pub received_after : (made : ℕ → Option Bunch) (count : ℕ) (got : List Received) (b : Bunch) (n : ℕ) → Good made count got → InSpan count n → b.seq ≡ n % 1024 → made n ≡ Some b
     → After made count got (with_bunch got b) n
 received_after made count got b n g w e m = elim (with_cases got b n w.low (seq_read made count got b n g w e)) [
@@ -139,6 +147,7 @@ received_after made count got b n g w e m = elim (with_cases got b n w.low (seq_
 
 -- ---- a bunch as it was made
 
+-- what a bunch that was made says of itself
 pub record MadeFacts (ch n : ℕ) (b : Bunch) : Type 0 where
   pub reliable : b.reliable ≡ true
   pub channel : b.channel ≡ ch
@@ -147,6 +156,7 @@ pub record MadeFacts (ch n : ℕ) (b : Bunch) : Type 0 where
 facts_of : (c k : ℕ) (m : Message) (i : ℕ) → MadeFacts c k (made_bunch c k m i)
 facts_of c k m i = record { reliable = refl; channel = refl; seq = refl }
 
+-- it says its channel and number
 pub made_facts : (ch n : ℕ) (past : Past) (b : Bunch) → newest_of (made_as ch n) past ≡ Some b → MadeFacts ch n b
 made_facts ch n [] b e = absurd (let no : (let o : Option Bunch = None in o) ≡ Some b = e in cc)
 made_facts ch n (Ticked t s ∷ past) b e = made_facts ch n past b e

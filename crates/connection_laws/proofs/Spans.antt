@@ -31,6 +31,7 @@ some_parts m = by (nat_le (length (message_bits m)) 7000) refl
 
 -- ---- the least number that hasn't arrived
 
+-- the same test finds the same least number
 pub least_like : (p q : ℕ → Bool) → ((n : ℕ) → p n ≡ q n) → (k i : ℕ) → least_from p k i ≡ least_from q k i
 least_like p q h zero i = refl
 least_like p q h (suc k) i = rw (h i, least_like p q h k (i + 1)) refl
@@ -77,6 +78,7 @@ least_is_unarrived past h ch = elim (least_end (unarrived past ch) (made_count p
   | inr e ↦ ap not (unmade_unarrived past h ch (least_unarrived past ch) (omega (arith, e)))
 ]
 
+-- the span grows by the parts of a message made there
 pub span_made : (past : Past) → CarriesMade past → (ch : ℕ) (m : Message) → span (after_making past ch m) ch ≡ span past ch + parts_of m
 span_made past h ch m =
     let later : Past = after_making past ch m in
@@ -96,6 +98,7 @@ span_like past later ch c a =
     ∙ ap (λ k. least_from (unarrived past ch) k 1) c in
     omega arith
 
+-- a message made elsewhere leaves the span
 pub span_elsewhere : (past : Past) (ch c : ℕ) (m : Message) → (c ≡ ch → ⊥) → span (after_making past c m) ch ≡ span past ch
 span_elsewhere past ch c m h = span_like past (after_making past c m) ch (made_count_elsewhere past ch c m h) (λ n. arrival_made past c m ch n)
 
@@ -116,6 +119,7 @@ span_falls past later ch c a =
 
 -- ---- the sum of spans
 
+-- the sum of spans is one over the used indexes
 pub span_sum_is : (past : Past) → span_sum past ≡ sum_once (span past) (filter_map channel_in past)
 span_sum_is past = sum_in_order (span past) nat_lt (each_once (filter_map channel_in past))
 
@@ -139,6 +143,7 @@ unused_count ch past e = elim (greatest_in (filter_map (made_on ch) past)) [
     used (Took n es ds ∷ past) k h = used past k h
     used (Ended e ∷ past) k h = used past k h
 
+-- an index that was never used has no span
 pub unused_span : (ch : ℕ) (past : Past) → is_among ch (filter_map channel_in past) ≡ false → span past ch ≡ 0
 unused_span ch past e =
     let none : made_count past ch ≡ 0 = unused_count ch past e in
@@ -158,6 +163,7 @@ used_sum : (f : ℕ → ℕ) (ch : ℕ) (ns : List ℕ) (i : ℕ) (cs : List ℕ
 used_sum f ch ns zero cs lo h = absurd (omega arith)
 used_sum f ch ns (suc i) cs lo h = h.0
 
+-- the sum of spans grows by the parts of a message
 pub span_sum_made : (past : Past) → CarriesMade past → (ch : ℕ) (m : Message) → span_sum (after_making past ch m) ≡ span_sum past + parts_of m
 span_sum_made past h ch m =
     let later : Past = after_making past ch m in
@@ -170,6 +176,7 @@ span_sum_made past h ch m =
     (filter_map channel_in past) (unused_span ch past)
     ∙ ap (λ s. s + parts_of m) (sym (span_sum_is past))
 
+-- the sum of spans falls where each does
 pub span_sum_falls : (past later : Past) → filter_map channel_in later ≡ filter_map channel_in past → ((ch : ℕ) → span later ch ≤ span past ch) → span_sum later ≤ span_sum past
 span_sum_falls past later c h =
     let a : span_sum later ≡ sum_once (span later) (filter_map channel_in past) = span_sum_is later ∙ ap (sum_once (span later)) c in
@@ -192,6 +199,7 @@ made_fit past h c m r s = record {
   sum = omega (arith, span_sum_made past h c m, r, s.sum);
 }
 
+-- spans stay within their limits
 pub spans_fit : (end : End) (past : Past) → IsRun end past → SpansFit past
 spans_fit end past run = always end SpansFit (record { each = λ ch. omega arith; sum = omega arith }) step past run
   where

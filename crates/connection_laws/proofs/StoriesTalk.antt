@@ -77,6 +77,7 @@ delivered_ready table edits side k p h (Some bytes) e =
     (after_datagram table edits side (λ verdict. Answered side p.number k (Says verdict)) bytes p) (λ (told : Reported). Ready table side told.0) (λ q. h)
     (λ q. got_talks table side p k bytes h e (ltb-false (k + 8192) (top_of (past_at table side p)) q))
 
+-- each packet is read back after a delivery
 pub delivery_ready : (table : Table) (edits : Edits) (side : Side) (k : ℕ) (p : Player) → Ready table side p → Ready table side (after_delivery table edits side k p).0
 delivery_ready table edits side k p h = delivered_ready table edits side k p h (slice_get (out_at table (other_side side) p) (k - 1)) refl
 
@@ -89,6 +90,7 @@ event_number : (side : Side) (event : Event) (p : Player) → (with_event side e
 event_number AtServer event p = refl
 event_number AtClient event p = refl
 
+-- a delivery leaves the number of the player
 pub delivered_number : (table : Table) (edits : Edits) (side : Side) (k : ℕ) (p : Player) (o : Option (List ℕ)) → (delivered table edits side k p o).0.number ≡ p.number
 delivered_number table edits side k p None = refl
 delivered_number table edits side k p (Some bytes) =
@@ -123,10 +125,12 @@ deliver_keeps table edits side k = record {
   talks = λ p r h. (delivery_ready table edits side k p (h, r (other_side side))).0;
 }
 
+-- each packet is read back after a report
 pub told_ready : (table : Table) (side : Side) (count : ℕ) (p : Player) → Ready table side p → Ready table side (with_told side count p)
 told_ready table AtServer count p h = h
 told_ready table AtClient count p h = h
 
+-- a report leaves the number of the player
 pub told_number : (side : Side) (count : ℕ) (p : Player) → (with_told side count p).number ≡ p.number
 told_number AtServer count p = refl
 told_number AtClient count p = refl
@@ -199,6 +203,7 @@ line_talks table n story (Forge side player bytes) f r h = inv_other table n pla
 
 -- ---- all lines
 
+-- what holds of each item in its place holds of all
 pub all_from : {A : Type 0} (P : A → Type 0) (xs : List A) → ((x : A) (before after : List A) → xs ≡ before ++ x ∷ after → P x) → AllByRecursion P xs
 all_from P [] h = tt
 all_from P (x ∷ xs) h = (h x [] xs refl, all_from P xs (λ y before after e. h y (x ∷ before) after (ap (λ l. x ∷ l) e)))
@@ -229,6 +234,7 @@ talks_honestly table lines p joined honest r =
 pub linked : (left right : End) (l r : List Event) → left.version ≡ right.version → IsTalk left right l r → IsLink left right (past_of left l) (past_of right r)
 linked left right l r same talk = (talked left.version left right refl (sym same) l r talk).link
 
+-- numbers are read right between the player's ends, and payloads received are a prefix
 pub delivers : (table : Table) (lines : List Line) (p : Player) (side : Side) → HasJoined (story_of table lines).0 p → IsHonest lines p.number → AllRead table lines p.number
     → ReadsRight (past_at table (other_side side) p) (past_at table side p) × ReceivesPrefixes (past_at table (other_side side) p) (past_at table side p)
 delivers table lines p side joined honest reads = by side

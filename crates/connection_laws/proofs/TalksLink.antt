@@ -45,10 +45,12 @@ packet_said : (v : Version) (end : End) → end.version ≡ v → (past : Past) 
 packet_said One end e past number items = recs_said items
 packet_said Two end e past number items = rw e (ap (λ (es : List Entry). Told (head_of Two past) ∷ es) (recs_said items))
 
+-- packet k by its number, its head and what it says
 pub record PacketFacts (v : Version) (past : Past) (k : ℕ) (p : Packet) : Type 0 where
   pub number : p.number ≡ k % 16384
   pub entries : entries_in v p ≡ map entry_said (said_by v past k)
 
+-- a packet that was sent is so
 pub packet_facts : (v : Version) (end : End) → end.version ≡ v → (past : Past) (k : ℕ) (p : Packet) → packet_at end past k ≡ Some p → PacketFacts v past k p
 packet_facts v end e [] k p h = absurd (let never : (let o : Option Packet = None in o) ≡ Some p = h in cc)
 packet_facts v end e (Ticked t s ∷ past) k p h = (let f : PacketFacts v past k p = packet_facts v end e past k p h in record { number = f.number; entries = f.entries })
@@ -74,6 +76,7 @@ packet_facts v end e (Sent number t items ∷ past) k p h = by (number == k) ref
 
 -- ---- what was said stays
 
+-- what the past said it says later too
 pub record Stays (v : Version) (past later : Past) : Type 0 where
   pub more : last_sent past ≤ last_sent later
   pub same : (k : ℕ) → k ≤ last_sent past → said_by v later k ≡ said_by v past k
@@ -81,6 +84,7 @@ pub record Stays (v : Version) (past later : Past) : Type 0 where
 stays_like : (v : Version) (past later next : Past) → last_sent next ≡ last_sent later → ((k : ℕ) → said_by v next k ≡ said_by v later k) → Stays v past later → Stays v past next
 stays_like v past later next l s h = record { more = omega (arith, l, h.more); same = λ k le. s k ∙ h.same k le }
 
+-- what was said stays said, move by move
 pub stays_on : (v : Version) (past later : Past) (move : Move) → Stays v past later → Stays v past (after_move later move)
 stays_on v past later (Ticks sight) h = record { more = h.more; same = h.same }
 stays_on v past later (Makes ch m) h = stays_like v past later (after_making later ch m) (last_sent_made later ch m) (said_made v later ch m) h
@@ -110,6 +114,7 @@ whole_end : (v : Version) (other : Past) (i : ℕ) (before : Past) → 1 ≤ i �
 whole_end v other zero before lo h = absurd (omega arith)
 whole_end v other (suc i) before lo h = h
 
+-- making a message leaves a packet heard to its end
 pub whole_made : (v : Version) (other past : Past) (ch : ℕ) (m : Message) → IsWhole v other (after_making past ch m)
 whole_made v other past ch m =
     whole_end v other (parts_of m) (after_making past ch m) (some_parts m) (making_keeps (WholeUpTo v other) past ch m tt (λ i before lt h. tt))
@@ -214,6 +219,7 @@ module _ (v : Version) (mine : End) (mv : mine.version ≡ v) (other : Past) (R 
 
 -- ---- both ends
 
+-- a packet was heard to its end where what it said stays
 pub whole_stays : (v : Version) (other later me : Past) → ((n : ℕ) → is_among n (taken_of me) ≡ true → said_by v later n ≡ said_by v other n) → IsWhole v other me → IsWhole v later me
 whole_stays v other later (Took n es ds ∷ past) h w = w ∙ ap (λ (s : List Said). reverse (map entry_said s)) (sym (h n (among_here n (taken_of past) n refl)))
 whole_stays v other later [] h w = tt
@@ -223,6 +229,7 @@ whole_stays v other later (Waits m ∷ past) h w = tt
 whole_stays v other later (Sent n t items ∷ past) h w = tt
 whole_stays v other later (Ended g ∷ past) h w = tt
 
+-- the pasts of a talk are linked, and each packet was heard to its end
 pub record Talked (v : Version) (left right : End) (l r : Past) : Type 0 where
   pub link : IsLink left right l r
   pub left_whole : IsWhole v r l

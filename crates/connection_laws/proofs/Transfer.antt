@@ -30,6 +30,7 @@ Way v from (Took k es ds ∷ past) =
     × ((ch n : ℕ) (b : Bunch) → IsIn (SaysItem (Carries ch n b)) (take (length es) (said_by v from k)) → has (received_on (Took k es ds ∷ past) ch) n ≡ true)
 Way v from past = Unit {0}
 
+-- one way from an end that sends to the one that receives
 pub record Transfers (v : Version) (from to : Past) : Type 0 where
   -- what was taken was sent, and what moved was taken
   pub sent : (k : ℕ) → is_among k (taken_of to) ≡ true → (1 ≤ k) × (k ≤ last_sent from)
@@ -41,6 +42,7 @@ pub record Transfers (v : Version) (from to : Past) : Type 0 where
   pub had : (ch n k : ℕ) (b : Bunch) → is_among k (done_of to) ≡ true → IsIn (SaysItem (Carries ch n b)) (said_by v from k) → has (received_on to ch) n ≡ true
   pub way : Way v from to
 
+-- nothing was sent at first
 pub core_start : (v : Version) → Transfers v [] []
 core_start v = record {
   sent = λ k h. absurd (false≢true h);
@@ -175,6 +177,7 @@ core_takes v from to n g alive whole lo hi = record {
 
 -- ---- one more entry
 
+-- one more thing that was said was heard on an index
 pub record Hears1 (from : Past) (ch : ℕ) (got new : List Received) (s : Said) : Type 0 where
   pub within : (n : ℕ) → has new n ≡ true → (1 ≤ n) × (n ≤ made_count from ch)
   pub same : (n : ℕ) → has new n ≡ true → newest_of (as_number n) new ≡ newest_of (made_as ch n) from
@@ -252,6 +255,7 @@ take_next all before s after n e l = (
   ap (take (suc n)) (e ∙ sym (append_assoc before (s ∷ []) after)) ∙ take_at (before ++ s ∷ []) after (suc n) (omega (arith, length-append before (s ∷ []), l)),
 )
 
+-- it goes on when the next thing that a packet said is heard
 pub core_hears : (v : Version) (end : End) (from : Past) (k : ℕ) (es : List Entry) (ds : List Delivered) (past : Past) (entry : Entry)
     → IsRun end from → Transfers v from (Took k es ds ∷ past) → top_of past < k → IsNext v from (Took k es ds ∷ past) entry → Transfers v from (Took k (entry ∷ es) ds ∷ past)
 core_hears v end from k es ds past entry run g fresh next =

@@ -131,6 +131,7 @@ place t (y ∷ xs) h = by (t y) refl (λ q. place t xs q)
         let p = rest (omega (arith, h, one_count t y xs, none_here)) in
         record { before = y ∷ p.before; item = p.item; after = p.after; split = ap (λ (l : List Asked). y ∷ l) p.split; passes = p.passes }
 
+-- items that each test counts no more often are among the others
 pub among : (items others : List Asked) → ((t : Asked → Bool) → count_by t items ≤ count_by t others) → AreAmong items others
 among [] others h = none
 among (x ∷ items) others h =
@@ -143,5 +144,6 @@ among (x ∷ items) others h =
     omega (arith, h t, all, one_count t x items, both_count t p.before (x ∷ p.after), one_count t x p.after, both_count t p.before p.after)) in
     subst (AreAmong (x ∷ items)) (sym split) (one_more p.before p.after (among items (p.before ++ p.after) fewer))
 
+-- so calls that are handed over at most as often come once
 pub once_of : (table : Table) (p : Player) → HandsOverAtMost table p → HandsOverOnce table p
 once_of table p h side = among _ _ (h side)

@@ -84,6 +84,7 @@ begun_whole : (ch : ℕ) (later : List Numbered) (i : ℕ) (rest : List Bunch) �
 begun_whole ch [] i rest b = ap (wholes_from []) b
 begun_whole ch (made ∷ later) i rest b = ap (wholes_from []) b.1 ∙ none_whole ch made.0 made.1 i 0 [] (omega (arith, b.0))
 
+-- what is joined of whole messages and some parts is the messages
 pub wholes_are : (ch : ℕ) (done later : List Numbered) (i : ℕ) (rest : List Bunch) → HasBegun ch later i rest → wholes_from [] (all_bunches ch done ++ rest) ≡ map (payload_of ch) done
 wholes_are ch [] later i rest b = begun_whole ch later i rest b
 wholes_are ch (made ∷ done) later i rest b =

@@ -29,6 +29,7 @@ hands_same from to hands ch = (
       ∙ ap (λ (ms : List Message). ms ++ map (λ (x : Numbered). x.1) (hands ch).later) (sym (hands ch).same),
 )
 
+-- the feeds of a player's ends show sights that fit
 pub feeds_fit : (entries : List Entry) (lines : List Line) (p : Player) → IsTable entries → AreAccepted (table_of entries) (story_of (table_of entries) lines).0.edits → HasJoined (story_of (table_of entries) lines).0 p → FeedsFit p
 feeds_fit entries lines p is ok joined =
     all_at FeedsFit p (story_of (table_of entries) lines).0.players (lines_keep entries is lines (first_story, []) ok tt) (subst (IsIn p) (sym joined.2) (in_middle p joined.0 joined.1))
@@ -42,6 +43,7 @@ players_agree entries lines p is ok joined honest =
     agree_talk entries is p.number (story_of (table_of entries) lines).0.edits ok p.version (end_of (table_of entries) AtServer p) (end_of (table_of entries) AtClient p) refl refl refl refl refl refl p.server_feed p.client_feed
     (talks_honestly (table_of entries) lines p joined honest (all_read entries lines p.number is ok)) (record { sees = shown.sees; blind = shown.blind; left_fit = fit.0; right_fit = fit.1 })
 
+-- calls are handed over as prefixes
 pub hands_over : (entries : List Entry) (lines : List Line) (p : Player) → IsTable entries → AreAccepted (table_of entries) (story_of (table_of entries) lines).0.edits → HasJoined (story_of (table_of entries) lines).0 p → IsHonest lines p.number
     → HandsOverPrefixes (table_of entries) p
 hands_over entries lines p is ok joined honest = by

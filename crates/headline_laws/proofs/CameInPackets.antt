@@ -37,6 +37,7 @@ pub record CameIn (v : Version) (from to : Past) (ch n : ℕ) : Type 0 where
   pub bunch : Bunch
   pub said : IsIn (SaysItem (Carries ch n bunch)) (said_by v from packet)
 
+-- each bunch received came in a packet that was taken
 abbrev pub CameFrom : Version → (from to : Past) → Type 0
 CameFrom v from to = (ch n : ℕ) → has (received_on to ch) n ≡ true → CameIn v from to ch n
 

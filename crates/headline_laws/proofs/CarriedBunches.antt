@@ -35,6 +35,7 @@ pub record Dir (v : Version) (sender : End) (from to : Past) : Type 0 where
   pub applies : AppliesPrefixes from to
   pub overruns : NeverOverruns from to
 
+-- what the left end sends the right one
 pub dir_there : (left right : End) (l r : Past) → left.version ≡ right.version → IsLink left right l r → Dir left.version left l r
 dir_there left right l r same link = record {
   run = left_run left right l r link;
@@ -43,6 +44,7 @@ dir_there left right l r same link = record {
   overruns = overruns_there left right l r same link;
 }
 
+-- what the right end sends the left one
 pub dir_back : (left right : End) (l r : Past) → left.version ≡ right.version → IsLink left right l r → Dir left.version right r l
 dir_back left right l r same link = record {
   run = right_run left right l r link;

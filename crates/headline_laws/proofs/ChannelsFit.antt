@@ -119,10 +119,12 @@ carrying_fits end past ch f (n ∷ ns) = by (newest_of (made_as ch n) past) refl
     by None q all = all
     by (Some b) q all = (rec_fits end.version b (found_fits end past ch n b f q), all)
 
+-- each due item can be spelled
 pub due_fits : (end : End) (past : Past) → PastFits end past → AllByRecursion (ItemFits end.version) (due_items past)
 due_fits end past f =
     all_flat (ItemFits end.version) (due_on past) (λ ch. carrying_fits end past ch f (filter (is_due past ch) (range_with_len 1 (made_count past ch)))) (channels_of past)
 
+-- the message has one part
 abbrev pub IsShort : Message → Type 0
 IsShort m = length (message_bits m) ≤ 7000
 
@@ -135,9 +137,11 @@ since_short end (Sent n t items ∷ past) f = since_short end past f.1
 since_short end (Took n es ds ∷ past) f = since_short end past f.1
 since_short end (Ended g ∷ past) f = since_short end past f.1
 
+-- each message that waits is short
 pub waiting_short : (end : End) (past : Past) → PastFits end past → AllByRecursion IsShort (waiting_of past)
 waiting_short end past f = all_reverse IsShort (filter_map waits_in (deeds_since_tick past)) (since_short end past f)
 
+-- each call that waited can be spelled
 pub calls_fit : (end : End) (past : Past) (ms : List Message) → PastFits end past → AllByRecursion IsShort ms → AllByRecursion (ItemFits end.version) (filter_map (call_item end.side past) ms)
 calls_fit end past [] f h = tt
 calls_fit end past (m ∷ ms) f h = by (call_channel end.side past (actor_of m)) refl (calls_fit end past ms f h.1)
@@ -149,6 +153,7 @@ calls_fit end past (m ∷ ms) f h = by (call_channel end.side past (actor_of m))
 
 -- ---- the free index
 
+-- what is among numbers with one more is it, or was among them
 pub back_inserted : (before : ℕ → ℕ → Bool) (x : ℕ) (ys : List ℕ) (n : ℕ) → is_among n (insert_in_order before x ys) ≡ true → is_among n (x ∷ ys) ≡ true
 back_inserted before x [] n h = h
 back_inserted before x (y ∷ ys) n h = elim (cases_Bool (before y x)) [
@@ -162,6 +167,7 @@ back_inserted before x (y ∷ ys) n h = elim (cases_Bool (before y x)) [
   | inr e ↦ rw e at h
 ]
 
+-- what is among numbers in order was among them
 pub back_in_order : (before : ℕ → ℕ → Bool) (xs : List ℕ) (n : ℕ) → is_among n (in_order before xs) ≡ true → is_among n xs ≡ true
 back_in_order before [] n h = h
 back_in_order before (x ∷ xs) n h = elim (among_cons x (in_order before xs) n (back_inserted before x (in_order before xs) n h)) [
@@ -169,6 +175,7 @@ back_in_order before (x ∷ xs) n h = elim (among_cons x (in_order before xs) n 
   | inr q ↦ among_there x xs n (back_in_order before xs n q)
 ]
 
+-- what is among numbers, each once, was among them
 pub back_each_once : (xs : List ℕ) (n : ℕ) → is_among n (each_once xs) ≡ true → is_among n xs ≡ true
 back_each_once [] n h = h
 back_each_once (x ∷ xs) n h = elim (cases_Bool (is_among x xs)) [

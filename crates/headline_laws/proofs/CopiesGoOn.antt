@@ -23,6 +23,7 @@ some_is x y e = cc
 
 -- ---- the holder of a channel is its user
 
+-- the copy that holds a channel is that of its user
 pub holder_is_user : (past : Past) → CopiesAgree past → (ch : ℕ) → copy_on past ch ≡ user_at past ch
 holder_is_user past h ch = by (user_at past ch) refl
   where
@@ -30,6 +31,7 @@ holder_is_user past h ch = by (user_at past ch) refl
     by None e = none_holds past ch (λ a has q. none_some a (sym e ∙ h.held ch a q))
     by (Some a) e = (let c = h.holds ch a e in copy_holds past ch a c.0 c.1 (λ b has q. some_is b a (sym (h.held ch b q) ∙ e)))
 
+-- copies and users agree at first
 pub agree_start : CopiesAgree []
 agree_start = record { holds = λ ch a e. absurd (none_some a e); held = λ ch a e. absurd (none_some ch e) }
 

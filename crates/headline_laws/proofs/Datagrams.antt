@@ -27,6 +27,7 @@ use Rattle.packet_codec.proofs.PacketSpelled.{content_spelled}
 use Rattle.packet_codec.proofs.ReadBack.{rules_of}
 use Rattle.headline_laws.specs.Fits.{EntryFits, PlaceFits, PastFits}
 
+-- the bunch's channel can be spelled
 abbrev pub Low : Version → Bunch → Type 0
 Low v b = b.channel < channel_limit v
 
@@ -163,6 +164,7 @@ entry_fits end past (Told head) e f = f
 entry_fits end past (Acked n) e f = f
 entry_fits end past (Heard b) e f = heard_fits end past b e f
 
+-- hearing entries leaves a past that fits
 pub entries_go : (end : End) (past : Past) (entries : List Entry) → AllByRecursion (EntryFits end.version) entries → PastFits end past → PastFits end (after_entries end past entries)
 entries_go end past [] e f = f
 entries_go end past (entry ∷ more) e f =
@@ -220,5 +222,6 @@ read_fits end past bytes (Ok p) e f =
     (λ n. entries_go end (Took (unsigned_abs (number_near past p.number)) [] [] ∷ past) (entries_in end.version p)
     (in_low end.version end.version p (recs_low end.version p.recs (recs_of end.version bytes p e))) ((tt, tt), f)) (λ n. f)
 
+-- so does a datagram
 pub got_fits : (end : End) (past : Past) (bytes : List ℕ) → PastFits end past → PastFits end (after_got end past bytes)
 got_fits end past bytes f = cond_both (has_ended past) past (after_reading end past (packet_of end.version bytes)) (PastFits end) (λ e. f) (λ e. read_fits end past bytes (packet_of end.version bytes) refl f)

@@ -63,6 +63,7 @@ pub record Agreement (entries : List Entry) (player : ℕ) (edits : Edits) (left
 
 -- ---- a move that hears nothing
 
+-- the move hears nothing, and hands nothing on
 abbrev pub IsStill : Move → Type 0
 IsStill (Ticks sight) = Unit {0}
 IsStill (Makes ch message) = Unit {0}

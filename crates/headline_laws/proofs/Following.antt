@@ -29,6 +29,7 @@ use Rattle.headline_laws.proofs.Reopened.{marks_it, new_mark, marks_made}
 
 -- ---- the server goes on
 
+-- the server went on: what it had made and opened stays, and its marks
 pub record More (past later : Past) : Type 0 where
   pub made : (ch : ℕ) → (ms : List Numbered) × (messages_on later ch ≡ messages_on past ch ++ ms)
   pub marks : (a : ℕ) → (ks : List Mark) × (marks_of later a ≡ ks ++ marks_of past a) × AllByRecursion (λ (mark : Mark). made_count past mark.channel < mark.number) ks
@@ -49,6 +50,7 @@ marks_more past c m a = by (marks_it a m) (marks_made past a c m)
     by true e = (new_mark past c m ∷ [], e, (omega arith, tt))
     by false e = ([], e, tt)
 
+-- each move goes on
 pub more_by : (end : End) (past : Past) (move : Move) → IsRun end past → May end past move → More past (after_move past move)
 more_by end past move run may = record { made = λ ch. (let g = (grows_by end past move run may).made ch in (reverse g.0, ap reverse g.1 ∙ reverse-append g.0 (on_index ch past))); marks = marks move; opened = opened move }
   where
@@ -75,6 +77,7 @@ more_by end past move run may = record { made = λ ch. (let g = (grows_by end pa
     opened (Hands d) a h = ap (λ (l : List Class). is_some (slice_get l 0)) (handed_ignored (open_class_in a) (λ n es d ds. refl) d past) ∙ h
     opened (Ends g) a h = h
 
+-- what was handed on of the past was of the later one
 abbrev pub hands_more : (past later to : Past) → More past later → HandsOnAll past to → HandsOnAll later to
 hands_more past later to more hands ch = record {
   done = (hands ch).done;
@@ -87,6 +90,7 @@ hands_more past later to more hands ch = record {
 pub done_low : (end : End) (past to : Past) → IsRun end past → (ch : ℕ) (hands : HandsOn past to ch) → parts_in hands.done ≤ made_count past ch
 done_low end past to run ch hands = omega (arith, count_is end past run ch, ap parts_in hands.split, parts_append hands.done hands.later)
 
+-- the client still follows
 pub follows_more : (segments : List Segment) (classes : ℕ → Class) (end : End) (past later client : Past) → IsRun end past → More past later → Follows segments classes past client → Follows segments classes later client
 follows_more segments classes end past later client run more f = record {
   hands = hands_more past later client more f.hands;
@@ -158,6 +162,7 @@ copy_stays past later a h c (mark ∷ marks) q = by mark.message q
     by (Calls actor n call args) q = (h ∙ q.0, c ∙ q.1)
     by (Gone actor) q = (h ∙ q.0, c ∙ q.1)
 
+-- it still follows while nothing is handed on
 pub follows_alike : (segments : List Segment) (classes : ℕ → Class) (server past later : Past) → delivered_of later ≡ delivered_of past → Follows segments classes server past → Follows segments classes server later
 follows_alike segments classes server past later e f = record {
   hands = hands_alike past later e server f.hands;
@@ -170,6 +175,7 @@ follows_alike segments classes server past later e f = record {
 
 -- ---- at first
 
+-- it follows at first
 pub follows_start : (segments : List Segment) (classes : ℕ → Class) → Follows segments classes [] []
 follows_start segments classes = record {
   hands = λ ch. record { done = []; later = []; split = refl; same = refl };
@@ -182,14 +188,17 @@ follows_start segments classes = record {
 
 -- ---- what was handed on stays
 
+-- the same messages were handed on
 pub alike_done : (segments : List Segment) (classes : ℕ → Class) (server past later : Past) (e : delivered_of later ≡ delivered_of past) (f : Follows segments classes server past) (ch : ℕ) → ((follows_alike segments classes server past later e f).hands ch).done ≡ (f.hands ch).done
 unfolding follows_alike
 alike_done segments classes server past later e f ch = refl
 
+-- the same messages were handed on
 pub more_done : (segments : List Segment) (classes : ℕ → Class) (end : End) (past later client : Past) (run : IsRun end past) (more : More past later) (f : Follows segments classes past client) (ch : ℕ) → ((follows_more segments classes end past later client run more f).hands ch).done ≡ (f.hands ch).done
 unfolding follows_more
 more_done segments classes end past later client run more f ch = refl
 
+-- none were handed on at first
 pub start_done : (segments : List Segment) (classes : ℕ → Class) (ch : ℕ) → ((follows_start segments classes).hands ch).done ≡ []
 unfolding follows_start
 start_done segments classes ch = refl

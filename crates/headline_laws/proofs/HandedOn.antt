@@ -43,6 +43,7 @@ use Rattle.payload_laws.specs.Accepted.{StandsIn}
 
 -- ---- an actor's marks on an index have falling numbers, the newest first
 
+-- the marks' numbers on one channel fall, the newest first
 abbrev pub Fall : List Mark → Type 0
 Fall [] = Unit {0}
 Fall (mark ∷ before) = AllByRecursion (λ (z : Mark). z.channel ≡ mark.channel → z.number < mark.number) before × Fall before
@@ -57,6 +58,7 @@ fall_made end past c m run h a = subst Fall (sym (marks_made past a c m)) (by (m
     by true = (all_weaker (IsMade past) (λ (z : Mark). z.channel ≡ c → z.number < made_count past c + 1) low (marks_of past a) (marks_at a past), h a)
     by false = h a
 
+-- an actor's marks do
 pub marks_fall : (end : End) (past : Past) → IsRun end past → (a : ℕ) → Fall (marks_of past a)
 marks_fall end past run = always end (λ past. (a : ℕ) → Fall (marks_of past a)) (λ a. tt) step past run
   where

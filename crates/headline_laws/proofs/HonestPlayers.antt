@@ -66,6 +66,7 @@ module _ (entries : List Entry) (lines : List Line) (p : Player) (is : IsTable e
       (delivers (table_of entries) lines p side joined honest (all_read entries lines p.number is ok)).1
       (hands_received (end_of (table_of entries) side p) (feed_of side p) open_yet ch)
 
+-- messages of so many bits have at most ten parts
 pub few_parts : (ms : List Numbered) → AllByRecursion (λ (made : Numbered). length (message_bits made.1) ≤ 70000) ms → AllByRecursion (λ (made : Numbered). parts_of made.1 ≤ 10) ms
 few_parts [] h = tt
 few_parts (made ∷ ms) h = (parts_most (length (message_bits made.1)) 10 (omega arith) (omega (arith, h.0)), few_parts ms h.1)

@@ -60,18 +60,22 @@ bunch_most v b h =
 abbrev pub BunchFits : Version → Bunch → Type 0
 BunchFits v b = (is_bunch v b ≡ true) × (length b.payload ≤ 7000)
 
+-- a bunch that fits makes a record that fits
 pub rec_fits : (v : Version) (b : Bunch) → BunchFits v b → (is_rec v (Sends b) ≡ true) × (length (rec_bits v (Sends b)) ≤ 7500)
 rec_fits One b h = (h.0, omega (arith, bunch_most One b h.1))
 rec_fits Two b h = (h.0, omega (arith, bunch_most Two b h.1))
 
+-- a bunch that is made fits
 pub made_fits : (v : Version) (ch n : ℕ) (m : Message) (i : ℕ) → ch < channel_limit v → BunchFits v (made_bunch ch n m i)
 made_fits v ch n m i h = (made_is_bunch v ch n m i h, piece_most (message_bits m) i)
 
+-- an unreliable message of one part fits
 pub loose_fits : (v : Version) (ch : ℕ) (m : Message) → ch < channel_limit v → length (message_bits m) ≤ 7000 → ItemFits v (loose_item m ch)
 loose_fits v ch m h short = rec_fits v (loose_bunch ch m) (loose_is_bunch v ch m h (omega (arith, short)), short)
 
 -- ---- a packet's start
 
+-- a range is as long as its count
 pub count_of : {A : Type 0} (f : ℕ → A) (count from : ℕ) → length (map f (range_with_len from count)) ≡ count
 count_of f zero from = refl
 count_of f (suc count) from = ap suc (count_of f count (from + 1))
@@ -99,6 +103,7 @@ start_same Two number past = omega (arith, two_start number (head_of Two past), 
 words_are : (past : Past) → length (head_of Two past).words ≡ word_count past
 words_are past = count_of (λ w. history_word past (top_of past - 32 * w)) (word_count past) 0
 
+-- the start of a packet takes at most 287 bits
 pub start_most : (v : Version) (past : Past) → length (start_bits v 0 (head_of v past)) ≤ 287
 start_most One past = omega (arith, power_width 14 0 (omega arith))
 start_most Two past =

@@ -37,9 +37,11 @@ each_back : (P : Past → Deed → Type 0) (later past : List Deed) → EachDeed
 each_back P [] past h = h
 each_back P (x ∷ later) past h = each_back P later past h.1
 
+-- a past that fits did before
 pub fits_back : (end : End) (later past : Past) → PastFits end (later ++ past) → PastFits end past
 fits_back end later past f = each_back (DeedFits end) later past f
 
+-- a message that was left waiting has one part
 pub waited_short : (end : End) (past : Past) (m : Message) → PastFits end past → (newer older : List Message) → filter_map waits_in past ≡ newer ++ m ∷ older → length (message_bits m) ≤ 7000
 waited_short end past m f newer older e = at newer (subst (AllByRecursion (λ (x : Message). length (message_bits x) ≤ 7000)) e (all past f))
   where

@@ -41,6 +41,7 @@ use Rattle.connection_laws.proofs.StoriesTalk.{all_from}
 
 -- ---- what was received whole was handed on
 
+-- a message that was received whole is among those handed on
 pub received_done : (left : End) (l r : Past) → IsRun left l → (hands : HandsOnAll l r) → HandsOnWhole l r hands → (ch : ℕ) (made : Numbered) (rec : IsReceived l r ch made)
     → (more : List Numbered) × ((hands ch).done ≡ reverse (made ∷ rec.at.older) ++ more)
 received_done left l r run hands whole ch made rec =
@@ -51,6 +52,7 @@ received_done left l r run hands whole ch made rec =
     let order : messages_on l ch ≡ reverse (made ∷ rec.at.older) ++ reverse rec.at.newer = ap reverse rec.at.split ∙ reverse-append rec.at.newer (made ∷ rec.at.older) in
     longer (hands ch).done (hands ch).later (reverse (made ∷ rec.at.older)) (reverse rec.at.newer) (sym (hands ch).split ∙ order) long
 
+-- so its number is not above theirs
 pub received_low : (left : End) (l r : Past) → IsRun left l → (hands : HandsOnAll l r) → HandsOnWhole l r hands → (ch : ℕ) (made : Numbered) → IsReceived l r ch made → made.0 ≤ parts_in (hands ch).done
 received_low left l r run hands whole ch made rec =
     let d = received_done left l r run hands whole ch made rec in

@@ -14,6 +14,7 @@ use Rattle.headline_laws.specs.Marks.{marks_of, MarkFits, MarksFit}
 use Rattle.headline_laws.proofs.Reopened.{marks_it, new_mark, marks_made}
 use Rattle.payload_laws.proofs.WorldValues.{same_some}
 
+-- a mark that may be made fits those before it
 pub new_fits : (end : End) (past : Past) (a c : ℕ) (m : Message) → MayMake end past c m → marks_it a m ≡ true → MarkFits (new_mark past c m) (marks_of past a)
 new_fits end past a c m may it = by m may it (marks_of past a) refl
   where
@@ -64,6 +65,7 @@ fit_made end past c m may h a = subst MarksFit (sym (marks_made past a c m)) (by
     by true e = (new_fits end past a c m may e, h a)
     by false e = h a
 
+-- each mark does
 pub marks_fit : (end : End) (past : Past) → IsRun end past → (a : ℕ) → MarksFit (marks_of past a)
 marks_fit end past run = always end (λ past. (a : ℕ) → MarksFit (marks_of past a)) (λ a. tt) step past run
   where

@@ -48,6 +48,7 @@ last_first past a mark before e = ap (λ (ks : List Mark). slice_get ks 0) e
 
 -- ---- a sleeping actor's last mark is a dormant close
 
+-- an actor that sleeps was closed to sleep
 pub asleep_sleeps : (past : Past) (mark : Mark) (m : Message) → is_asleep (state_after past mark m) ≡ true → is_sleeping m ≡ true
 asleep_sleeps past mark (Closes b sleeps) e = by (have_arrived past mark.channel 1 mark.number) sleeps e
   where
@@ -66,6 +67,7 @@ asleep_sleeps past mark (Gone b) e = absurd (false≢true e)
 
 -- ---- an actor that is gone is dead
 
+-- the actor was spawned, and lives no more
 pub record IsDead (edits : Edits) (a : ℕ) : Type 0 where
   pub number : ℕ
   pub is : a ≡ 2 * number

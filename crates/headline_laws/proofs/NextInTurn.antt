@@ -26,6 +26,7 @@ bracket_at : (newer : List Numbered) (made : Numbered) (older : List Numbered) �
 bracket_at [] made older h = h.0
 bracket_at (x ∷ newer) made older h = bracket_at newer made older h.1
 
+-- the next message of a channel stands in its actor's use
 pub next_fits : (end : End) (past : Past) → end.side ≡ AtServer → IsRun end past → (ch : ℕ) (done : List Numbered) (made : Numbered) (later : List Numbered) → messages_on past ch ≡ done ++ made ∷ later → FitsUse (reverse done) made.1
 next_fits end past s run ch done made later e =
     let all : filter_map (numbered_in ch) past ≡ reverse later ++ made ∷ reverse done =
@@ -58,6 +59,7 @@ applied_messages ch (d ∷ ds) = by (d.channel == ch && d.reliable) (applied_mes
     by true e = ap (λ (l : List Message). d.message ∷ l) e
     by false e = e
 
+-- mapping a list reversed
 pub map_reverse : {A B : Type 0} (f : A → B) (xs : List A) → map f (reverse xs) ≡ reverse (map f xs)
 map_reverse f [] = refl
 map_reverse {A} {B} f (x ∷ xs) =
@@ -89,6 +91,7 @@ copy_there client ch n (Calls a k call args) o e g before u f = and_none (ch == 
 copy_there client ch n (Updates a class values) o e g before u f = absurd f
 copy_there client ch n (Gone a) o e g before u f = gone_free (ch == 0) (is_none (copy_on client ch) && not (true && nat_lt 0 0)) g
 
+-- the next message finds its copy
 pub next_has_copy : (end : End) (server client : Past) → end.side ≡ AtServer → IsRun end server → CopiesAgree client → (ch : ℕ) (done : List Numbered) (made : Numbered) → (ch == 0) ≡ is_gone made.1 → ComesNext server client ch done made
     → lacks_copy AtClient client [] (made_bunch ch made.0 made.1 0) ≡ false
 next_has_copy end server client s run agree ch done made g next =
@@ -107,6 +110,7 @@ turn_by client d ch before c r u (Updates a class values) f n = tt
 turn_by client d ch before c r u (Calls a k call args) f n = tt
 turn_by client d ch before c r u (Gone a) f n = n.gone refl
 
+-- the next message comes in turn
 pub next_in_turn : (end : End) (server client : Past) → end.side ≡ AtServer → IsRun end server → (ch : ℕ) (done : List Numbered) (made : Numbered) (d : Delivered) → ComesNext server client ch done made → d.channel ≡ ch → d.reliable ≡ true → d.message ≡ made.1
     → FindsNoChannel client made.1 → ComesInTurn client d d.message
 next_in_turn end server client s run ch done made d next c r m n =

@@ -52,6 +52,7 @@ use Rattle.headline_laws.proofs.NextInTurn.{next_has_copy, next_is_user}
 
 -- ---- what holds of each deed that made a message
 
+-- what holds of each deed holds of a message that was made
 pub each_made : (P : Past → Deed → Type 0) (past : Past) (ch : ℕ) (made : Numbered) → EachDeed P past → MadeAt past ch made → (before : Past) × P before (Made ch made.0 made.1 0)
 each_made P past ch made each at = in_it past at.newer each at.split
   where
@@ -102,6 +103,7 @@ reliable_made end past ch (Updates a class values) may = absurd may.place
 reliable_made end past ch (Calls a n call args) may = may.place.2
 reliable_made end past ch (Gone a) may = refl
 
+-- each message that was made is reliable
 pub all_reliable : (end : End) (past : Past) → IsRun end past → EachDeed IsReliable past
 all_reliable end past run = always end (EachDeed IsReliable) tt step past run
   where
@@ -117,6 +119,7 @@ all_reliable end past run = always end (EachDeed IsReliable) tt step past run
 
 -- ---- what is known of a server, and of what a client was handed on
 
+-- what the laws of a server say of its past
 pub record ServerFacts (entries : List Entry) (classes : ℕ → Class) (left : End) (l : Past) : Type 0 where
   pub side : left.side ≡ AtServer
   pub run : IsRun left l
@@ -163,6 +166,7 @@ sleeping_closes (Updates b class values) e = absurd (false≢true e)
 sleeping_closes (Calls b n call args) e = absurd (false≢true e)
 sleeping_closes (Gone b) e = absurd (false≢true e)
 
+-- the mark of the next message is the first of the actor's newer ones
 pub at_turn : (left : End) (l r : Past) → IsRun left l → (hands : HandsOnAll l r) → Ready l r hands → (ch : ℕ) (made : Numbered) → Comes l r hands ch made → (a : ℕ) → MarksCome a (marks_of l a) → (follow : MarksFollow l r hands a)
     → actor_of made.1 ≡ a → is_mark made.1 ≡ true → AtTurn l r hands a follow (record { channel = ch; number = made.0; message = made.1 })
 at_turn left l r run hands ready ch made next a come follow same it =
@@ -246,11 +250,13 @@ close_finds r a mark b sleeps (last ∷ older) c copy = by last.message c.0 copy
     by (Calls x n call args) q copy = absurd (false≢true q)
     by (Gone x) q copy = absurd (false≢true q)
 
+-- a spawned actor's guid is an actor's
 pub spawned_actor : (a : ℕ) → IsSpawned a → IsActor a
 spawned_actor a s = record { even = omega (arith, s.1); least = omega (arith, s.1, s.2); below = omega (arith, s.1, s.3) }
 
 -- ---- the names of a client
 
+-- the segments that a message exports
 abbrev pub exports_in : Message → List Segment
 exports_in m = elim m [ Opens exports actor class values ↦ exports | _ ↦ [] ]
 
@@ -334,6 +340,7 @@ module _ (entries : List Entry) (is : IsTable entries) (classes : ℕ → Class)
           let same = known_is (segments_of entries) (names_of r) s x.segment st.0.0 is.segments.same (names_among entries r is f.exports) st.0.1 at in
           at ∙ ap (λ (t : Segment). Some t) same.is
 
+-- a class's path stands among the segments of its table
 pub path_stands : (entries : List Entry) (class : Class) → StandsIn entries class → StandAmong (segments_of entries) class.path
 path_stands entries class st =
     subst (λ (c : Class). StandAmong (segments_of entries) c.path) st.4

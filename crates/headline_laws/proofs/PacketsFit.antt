@@ -37,6 +37,7 @@ zero_below : (v : Version) → 0 < channel_limit v
 zero_below One = omega arith
 zero_below Two = omega arith
 
+-- a past fits after a message that fits is made
 pub fits_made : (end : End) (past : Past) (ch : ℕ) (m : Message) → PastFits end past → ch < channel_limit end.version → OpenFits m → length (message_bits m) ≤ 70000 → PastFits end (after_making past ch m)
 fits_made end past ch m f low open_fits short = making_keeps (λ i before. PastFits end before) past ch m f (λ i before lt h. ((low, open_fits, short), h))
 
@@ -62,6 +63,7 @@ close_fits end past a f =
     zero_is : (ch : ℕ) → (let o : Option ℕ = Some 0 in o) ≡ Some ch → ch < channel_limit end.version
     zero_is ch q = (let same : 0 ≡ ch = cc in subst (λ (k : ℕ). k < channel_limit end.version) same (zero_below end.version))
 
+-- and after closes
 pub closes_fit : (end : End) (past : Past) (actors : List ℕ) → PastFits end past → PastFits end (fold after_close past actors)
 closes_fit end past [] f = f
 closes_fit end past (a ∷ actors) f = closes_fit end (after_close past a) actors (close_fits end past a f)
@@ -74,6 +76,7 @@ pub record PackFits (end : End) (start : ℕ) (past : Past) (packets : List (Lis
   pub start_is : start_length end past ≡ start
   pub each : AllByRecursion (PacketFits end.version start) packets
 
+-- what was packed so far fits
 abbrev pub PackingFits : End → (start : ℕ) → Packing → Type 0
 PackingFits end start p = PackFits end start p.past p.packets
 
@@ -105,6 +108,7 @@ with_fits end past start (current ∷ packets) item e f all true q =
     let fits : packet_length end past (current ++ item ∷ []) + 1 ≤ 8192 = leb-true (packet_length end past (current ++ item ∷ []) + 1) 8192 q in
     ((all_append (ItemFits end.version) current (item ∷ []) all.0.0 (f, tt), omega (arith, fits, packet_is end past (current ++ item ∷ []), e)), all.1)
 
+-- an item that fits is packed so that all fits
 pub offer_fits : (end : End) (start : ℕ) (p : Packing) (item : Item) → PackingFits end start p → ItemFits end.version item → PackingFits end start (after_offer end p item)
 offer_fits end start p item h f =
     cond_both p.full p
@@ -118,6 +122,7 @@ offer_fits end start p item h f =
     more : PackFits end start p.past (items_with p.packets (fits_current end p.past p.packets item) item)
     more = record { fits = h.fits; start_is = h.start_is; each = with_fits end p.past start p.packets item h.start_is f h.each (fits_current end p.past p.packets item) refl }
 
+-- so are items
 pub offers_fit : (end : End) (start : ℕ) (p : Packing) (items : List Item) → PackingFits end start p → AllByRecursion (ItemFits end.version) items → PackingFits end start (fold (after_offer end) p items)
 offers_fit end start p [] h f = h
 offers_fit end start p (item ∷ items) h f = offers_fit end start (after_offer end p item) items (offer_fits end start p item h f.0) f.1
@@ -128,6 +133,7 @@ parts_fit : (v : Version) (ch first : ℕ) (m : Message) → ch < channel_limit 
 parts_fit v ch first m low zero from = tt
 parts_fit v ch first m low (suc count) from = (rec_fits v (made_bunch ch (first + from) m from) (made_fits v ch (first + from) m from low), parts_fit v ch first m low count (from + 1))
 
+-- so is an open
 pub open_fits : (end : End) (start : ℕ) (p : Packing) (ch : ℕ) (m : Message) → PackingFits end start p → ch < channel_limit end.version → OpenFits m → length (message_bits m) ≤ 70000 → PackingFits end start (after_open end p ch m)
 open_fits end start p ch m h low of short =
     let first : ℕ = made_count p.past ch + 1 in
@@ -164,6 +170,7 @@ open_short past seen s =
     let k = segments_kept (λ (x : Segment). not (is_known past x.guid)) seen.class.path s.path in
     omega (arith, open_most (needed_segments past seen.class) seen.actor seen.class seen.values k.0 (omega (arith, k.1, s.short)) s.limits s.all_fit)
 
+-- so is what an actor sends
 pub actor_fits : (end : End) (start : ℕ) (p : Packing) (seen : Seen) → PackingFits end start p → SeenFits seen → free_index p.past < channel_limit end.version → PackingFits end start (after_actor end p seen)
 actor_fits end start p seen h s low =
     let opened : Packing = after_open end p (free_index p.past) (open_message p.past seen) in
@@ -184,6 +191,7 @@ sight_fits end (Sent n t items ∷ past) f = sight_fits end past f.1
 sight_fits end (Took n es ds ∷ past) f = sight_fits end past f.1
 sight_fits end (Ended g ∷ past) f = sight_fits end past f.1
 
+-- each actor of a tick is seen as fits
 pub actors_seen : (end : End) (past : Past) → PastFits end past → AllByRecursion SeenFits (actors_by_score past)
 actors_seen end past f =
     all_mapped SeenFits (λ (scored : ℕ × Seen). scored.1) (in_order goes_before (scored_actors past))
@@ -193,11 +201,13 @@ actors_seen end past f =
 
 -- ---- packets are sent
 
+-- the past fits, the start of a packet takes so many bits, and what is known was sent
 pub record SentFits (end : End) (start : ℕ) (past : Past) : Type 0 where
   pub fits : PastFits end past
   pub start_is : start_length end past ≡ start
   pub high : high_of past ≤ last_sent past
 
+-- a packet that fits is sent
 pub one_fits : (end : End) (start : ℕ) (past : Past) (items : List Item) → SentFits end start past → PacketFits end.version start items → SentFits end start (after_sending past items)
 one_fits end start past items h f = record {
   fits = (subst (λ (n : ℕ). PacketFits end.version n items) (sym h.start_is) f, h.fits);
@@ -205,10 +215,12 @@ one_fits end start past items h f = record {
   high = omega (arith, last_sent_sent past items, h.high);
 }
 
+-- so are packets
 pub all_fit : (end : End) (start : ℕ) (past : Past) (packets : List (List Item)) → SentFits end start past → AllByRecursion (PacketFits end.version start) packets → SentFits end start (fold after_sending past packets)
 all_fit end start past [] h f = h
 all_fit end start past (items ∷ packets) h f = all_fit end start (after_sending past items) packets (one_fits end start past items h f.0) f.1
 
+-- the packets of a tick fit
 pub to_send_fit : (end : End) (start : ℕ) (before : Past) (p : Packing) → PackingFits end start p → AllByRecursion (PacketFits end.version start) (packets_to_send end before p)
 to_send_fit end start before p h =
     cond_both (nat_lt 0 (length p.packets)) (reverse p.packets) (cond (owes_head end.version before || is_silent p.past) ([] ∷ []) []) (AllByRecursion (PacketFits end.version start))

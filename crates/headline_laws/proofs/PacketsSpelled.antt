@@ -109,6 +109,7 @@ packet_spells end past number items f =
       size = bytes_few ((start ++ recs) ++ true ∷ []) (omega (arith, length-append (start ++ recs) (true ∷ []), length-append start recs, start_same v (number % 16384) past, recs_length v items, f.1));
     }
 
+-- each packet that was sent has its spelling
 pub packets_spell : (end : End) (past : Past) (k : ℕ) (p : Packet) → PastFits end past → packet_at end past k ≡ Some p → Spells end.version p (spelling_of end.version p)
 packets_spell end [] k p f e = absurd (let never : (let o : Option Packet = None in o) ≡ Some p = e in cc)
 packets_spell end (Ticked t s ∷ past) k p f e = packets_spell end past k p f.1 e

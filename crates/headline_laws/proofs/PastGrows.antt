@@ -23,10 +23,12 @@ use Rattle.headline_laws.specs.Tells.{ExportArrived, OpenExports, OpensExport}
 use Rattle.headline_laws.proofs.ReceivedFirst.{known_in, exports_open, open_arrived}
 use Rattle.connection_model.specs.Fates.{last_sent}
 
+-- what was made on an index, and what arrived, is there later
 pub record Grows (past later : Past) : Type 0 where
   pub made : (ch : ℕ) → (newer : List Numbered) × (on_index ch later ≡ newer ++ on_index ch past)
   pub arrived : (ch i : ℕ) → has_arrived past ch i ≡ true → has_arrived later ch i ≡ true
 
+-- it goes on growing
 pub grows_on : (past later last : Past) → Grows past later → Grows later last → Grows past last
 grows_on past later last g h = record {
   made = λ ch. ((h.made ch).0 ++ (g.made ch).0, (h.made ch).1 ∙ ap (λ (l : List Numbered). (h.made ch).0 ++ l) (g.made ch).1 ∙ sym (append_assoc (h.made ch).0 (g.made ch).0 (on_index ch past)));
@@ -46,6 +48,7 @@ grows_made past c m = record {
     by ch true = refl
     by ch false = refl
 
+-- each move lets it grow
 pub grows_by : (end : End) (past : Past) (move : Move) → IsRun end past → May end past move → Grows past (after_move past move)
 grows_by end past (Ticks sight) run may = grows_like past (after_move past (Ticks sight)) (λ ch. refl) (λ ch i e. e)
 grows_by end past (Makes c m) run may = grows_made past c m
@@ -56,6 +59,7 @@ grows_by end past (Hears entry) run may = grows_like past (with_told entry past)
 grows_by end past (Hands d) run may = grows_like past (with_handed d past) (λ ch. handed_ignored (numbered_in ch) (λ n es d ds. refl) d past) (λ ch i e. arrival_handed d past ch i ∙ e)
 grows_by end past (Ends g) run may = grows_like past (after_move past (Ends g)) (λ ch. refl) (λ ch i e. e)
 
+-- a message stays in its place
 pub made_grows : (past later : Past) → Grows past later → (ch : ℕ) (made : Numbered) → MadeAt past ch made → MadeAt later ch made
 made_grows past later g ch made at = record {
   newer = (g.made ch).0 ++ at.newer;
@@ -63,6 +67,7 @@ made_grows past later g ch made at = record {
   split = (g.made ch).1 ∙ ap (λ (l : List Numbered). (g.made ch).0 ++ l) at.split ∙ sym (append_assoc (g.made ch).0 at.newer (made ∷ at.older));
 }
 
+-- what has arrived below a number stays so
 pub below_grows : (past later : Past) → Grows past later → (ch n : ℕ) → ArrivedBelow past ch n → ArrivedBelow later ch n
 below_grows past later g ch n h i lo hi = g.arrived ch i (h i lo hi)
 
@@ -109,6 +114,7 @@ exports_made end past c (Updates a class values) run may = tt
 exports_made end past c (Calls a n call args) run may = tt
 exports_made end past c (Gone a) run may = tt
 
+-- each open exports what had not arrived
 pub opens_export : (end : End) (past : Past) → IsRun end past → OpensExport past
 opens_export end past run = always end OpensExport (λ ch. tt) step past run
   where
@@ -139,6 +145,7 @@ opens_export end past run = always end OpensExport (λ ch. tt) step past run
 
 -- ---- the past by the time that a packet was sent
 
+-- these items were sent after this past
 pub record SentAt (end : End) (past s : Past) (items : List Item) : Type 0 where
   pub run : IsRun end s
   pub may : MaySendAll end s items
@@ -257,6 +264,7 @@ said_in v (Sent n t items ∷ past) k item h = by (n == k) refl h (λ q. said_in
     by true e h ih = (past, items, [], t, ap (λ (x : ℕ). Sent x t items ∷ past) (eqb-true n k e), said_item v past items item h)
     by false e h ih = (let r = ih h in (r.0, r.1, Sent n t items ∷ r.2, r.3, ap (λ (l : Past). Sent n t items ∷ l) r.4, r.5))
 
+-- what a packet says was an item of one that was sent
 pub said_at : (v : Version) (end : End) (past : Past) → IsRun end past → (k : ℕ) (item : Item) → IsIn (SaysItem item) (said_by v past k) → SaidAt end past k item
 said_at v end past run k item h =
     let r = said_in v past k item h in

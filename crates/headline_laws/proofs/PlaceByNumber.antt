@@ -25,6 +25,7 @@ pub data Places {A : Type 0} (ws : List A) (x : A) (bs cs : List A) (y : A) (ds 
   first_later : (es : List A) → ws ≡ cs ++ y ∷ es → ds ≡ es ++ x ∷ bs → Places ws x bs cs y ds
   second_later : (es : List A) → cs ≡ ws ++ x ∷ es → bs ≡ es ++ y ∷ ds → Places ws x bs cs y ds
 
+-- two places in one list: one is before, at or behind the other
 pub places : {A : Type 0} (ws : List A) (x : A) (bs cs : List A) (y : A) (ds : List A) → ws ++ x ∷ bs ≡ cs ++ y ∷ ds → Places ws x bs cs y ds
 places {A} [] x bs [] y ds e = one refl (head x y bs ds e) (tail x y bs ds e)
   where
@@ -83,14 +84,17 @@ cut {A} (a ∷ ws) x bs (c ∷ cs) ds e = by (cut ws x bs cs ds (tail a c (ws ++
     by (inl r) h = inl (r.0, (ap (λ (l : List A). c ∷ l) r.1.0 ∙ ap (λ (z : A). z ∷ (ws ++ x ∷ r.0)) (sym h), r.1.1))
     by (inr r) h = inr (r.0, (ap (λ (l : List A). a ∷ l) r.1.0 ∙ ap (λ (z : A). z ∷ (cs ++ r.0)) h, r.1.1))
 
+-- what holds of all holds in the middle
 pub all_mid : {A : Type 0} (P : A → Type 0) (xs : List A) (y : A) (zs : List A) → AllByRecursion P (xs ++ y ∷ zs) → P y
 all_mid P [] y zs h = h.0
 all_mid P (x ∷ xs) y zs h = all_mid P xs y zs h.1
 
+-- what holds of both lists holds of the first
 pub all_front : {A : Type 0} (P : A → Type 0) (xs ys : List A) → AllByRecursion P (xs ++ ys) → AllByRecursion P xs
 all_front P [] ys h = tt
 all_front P (x ∷ xs) ys h = (h.0, all_front P xs ys h.1)
 
+-- what holds of both lists holds of the second
 pub all_back : {A : Type 0} (P : A → Type 0) (xs ys : List A) → AllByRecursion P (xs ++ ys) → AllByRecursion P ys
 all_back P [] ys h = h
 all_back P (x ∷ xs) ys h = all_back P xs ys h.1
@@ -103,6 +107,7 @@ at_place past ch made at =
     ap reverse at.split ∙ reverse-append at.newer (made ∷ at.older) ∙ ap (λ (l : List Numbered). l ++ reverse at.newer) (reverse-append (made ∷ []) at.older)
     ∙ append_assoc (reverse at.older) (made ∷ []) (reverse at.newer)
 
+-- a place among messages is one among those of the index
 pub place_at : (past : Past) (ch : ℕ) (before : List Numbered) (made : Numbered) (after : List Numbered) → messages_on past ch ≡ before ++ made ∷ after → MadeAt past ch made
 place_at past ch before made after e = record {
   newer = reverse after;
@@ -111,6 +116,7 @@ place_at past ch before made after e = record {
       ∙ ap (λ (l : List Numbered). l ++ reverse before) (reverse-append (made ∷ []) after) ∙ append_assoc (reverse after) (made ∷ []) (reverse before);
 }
 
+-- a message is numbered by the parts before it
 pub number_is : (end : End) (past : Past) → IsRun end past → (ch : ℕ) (before : List Numbered) (made : Numbered) (after : List Numbered) → messages_on past ch ≡ before ++ made ∷ after → made.0 ≡ parts_in before + 1
 unfolding place_at
 number_is end past run ch before made after e =
@@ -118,6 +124,7 @@ number_is end past run ch before made after e =
     let n : made.0 ≡ parts_in (reverse before) + 1 = row_at (reverse after) made (reverse before) (subst InRow at.split (rows end past run ch).row) in
     omega (arith, n, parts_reverse before)
 
+-- the bunches made are the parts of the messages
 pub count_is : (end : End) (past : Past) → IsRun end past → (ch : ℕ) → parts_in (messages_on past ch) ≡ made_count past ch
 count_is end past run ch = parts_reverse (on_index ch past) ∙ sym (rows end past run ch).count
 
@@ -137,6 +144,7 @@ behind_next end past run ch done next later e made at above =
 
 -- ---- marks among the messages made
 
+-- the mark is one of the actor's
 pub record IsMarked (past : Past) (a : ℕ) (mark : Mark) : Type 0 where
   pub newer : List Mark
   pub older : List Mark

@@ -42,6 +42,7 @@ call_above end past a ch run e = by (is_opened (state_of past a)) e
     by true e = index_above end past a ch run e
     by false e = absurd (let no : (let o : Option ℕ = None in o) ≡ Some ch = e in cc)
 
+-- a message is made on index 0 if it is a Gone
 pub rule_made : (end : End) (past : Past) (ch : ℕ) (m : Message) → end.side ≡ AtServer → IsRun end past → MayMake end past ch m → (ch == 0) ≡ is_gone m
 rule_made end past ch (Opens exports a class values) s run may = not_zero ch may.place.0
 rule_made end past ch (Closes a sleeps) s run may = index_above end past a ch run may.place.0
@@ -49,6 +50,7 @@ rule_made end past ch (Updates a class values) s run may = absurd may.place
 rule_made end past ch (Calls a n call args) s run may = call_above end past a ch run (subst (λ (x : Side). call_channel x past a ≡ Some ch) s may.place.0)
 rule_made end past ch (Gone a) s run may = eq-eqb ch 0 may.place.0
 
+-- each message was
 pub rules : (end : End) (past : Past) → end.side ≡ AtServer → IsRun end past → EachDeed Rule past
 rules end past s run = always end (EachDeed Rule) tt step past run
   where
@@ -78,6 +80,7 @@ found_placed (Sent k t items ∷ past) ch n b f e = found_placed past ch n b f.1
 found_placed (Took k es ds ∷ past) ch n b f e = found_placed past ch n b f.1 e
 found_placed (Ended g ∷ past) ch n b f e = found_placed past ch n b f.1 e
 
+-- an unreliable message is not sent on index 0
 pub loose_above : (end : End) (past : Past) (ch : ℕ) (m : Message) → end.side ≡ AtServer → IsRun end past → HasLoosePlace end past ch m → (ch == 0) ≡ false
 loose_above end past ch (Opens exports a class values) s run p = absurd p
 loose_above end past ch (Closes a sleeps) s run p = absurd p
@@ -85,6 +88,7 @@ loose_above end past ch (Gone a) s run p = absurd p
 loose_above end past ch (Updates a class values) s run p = index_above end past a ch run p.1
 loose_above end past ch (Calls a n call args) s run p = call_above end past a ch run (subst (λ (x : Side). call_channel x past a ≡ Some ch) s p.1)
 
+-- what a server sends is in its place
 pub placed_at_client : (end : End) (past : Past) → end.side ≡ AtServer → IsRun end past → PlacedAtClient end past
 placed_at_client end past s run = record {
   made = λ ch n b e. found_placed past ch n b (rules end past s run) e;

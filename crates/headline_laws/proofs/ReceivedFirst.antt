@@ -65,6 +65,7 @@ clear_made end past c m may h ch = elim (cases_eq c ch) [
     new (Calls a n call args) may o = absurd (false≢true o)
     new (Gone a) may o = absurd (false≢true o)
 
+-- an open is made where all has arrived
 pub opens_clear : (end : End) (past : Past) → IsRun end past → OpensClear past
 opens_clear end past run = always end OpensClear (λ ch. tt) step past run
   where
@@ -81,18 +82,22 @@ opens_clear end past run = always end OpensClear (λ ch. tt) step past run
 
 -- ---- what has arrived was received whole
 
+-- a message in a row is numbered by the parts before it
 pub row_at : (newer : List Numbered) (made : Numbered) (older : List Numbered) → InRow (newer ++ made ∷ older) → made.0 ≡ parts_in older + 1
 row_at [] made older h = h.0
 row_at (x ∷ newer) made older h = row_at newer made older h.1
 
+-- the parts of two lists
 pub parts_append : (xs ys : List Numbered) → parts_in (xs ++ ys) ≡ parts_in xs + parts_in ys
 parts_append [] ys = omega arith
 parts_append (x ∷ xs) ys = omega (arith, parts_append xs ys)
 
+-- the parts of a list reversed
 pub parts_reverse : (xs : List Numbered) → parts_in (reverse xs) ≡ parts_in xs
 parts_reverse [] = refl
 parts_reverse (x ∷ xs) = omega (arith, ap parts_in (reverse-append (x ∷ []) xs), parts_append (reverse xs) (x ∷ []), parts_reverse xs)
 
+-- what has arrived was received whole
 pub arrives_whole : (v : Version) (end : End) (from to : Past) → IsRun end from → Transfers v from to → AppliesPrefixes from to → ArrivesWhole from to
 arrives_whole v end from to run core applies ch made at arrived =
     let row : made.0 ≡ parts_in at.older + 1 = row_at at.newer made at.older (subst InRow at.split (rows end from run ch).row) in
@@ -107,6 +112,7 @@ arrives_whole v end from to run core applies ch made at arrived =
 
 -- ---- what a server takes for known
 
+-- each of a range has arrived
 pub arrived_each : (past : Past) (ch count from : ℕ) → list_all (has_arrived past ch) (range_with_len from count) ≡ true → (i : ℕ) → from ≤ i → i < from + count → has_arrived past ch i ≡ true
 arrived_each past ch zero from h i lo hi = absurd (omega (arith, lo, hi))
 arrived_each past ch (suc count) from h i lo hi = (
@@ -119,6 +125,7 @@ arrived_each past ch (suc count) from h i lo hi = (
     above : (from ≡ i → ⊥) → from + 1 ≤ i
     above ne = omega (arith, lo, ne)
 
+-- what holds of all holds in its place
 pub clear_at : (P : Numbered → Type 0) (newer : List Numbered) (made : Numbered) (older : List Numbered) → AllByRecursion P (newer ++ made ∷ older) → P made
 clear_at P [] made older h = h.0
 clear_at P (x ∷ newer) made older h = clear_at P newer made older h.1
@@ -131,6 +138,7 @@ open_arrived end past run ch made at o h i lo hi = elim (cases_Bool (nat_lt i ma
   | inr e ↦ arrived_each past ch (parts_of made.1) made.0 h i (ltb-false i made.0 e) hi
 ]
 
+-- a segment that is known was exported by an open that arrived
 pub record Known (past whole : Past) (g : ℕ) : Type 0 where
   pub channel : ℕ
   pub made : Numbered
@@ -154,6 +162,7 @@ known_later past whole g deed k = record {
     split None = k.at.split
     split (Some x) = ap (λ (l : List Numbered). x ∷ l) k.at.split
 
+-- this is so of each that is known
 pub known_in : (past whole : Past) (g : ℕ) → list_any (made_known whole g) past ≡ true → Known past whole g
 known_in [] whole g h = absurd (false≢true h)
 known_in (deed ∷ past) whole g h = elim (or_cases (made_known whole g deed) (list_any (made_known whole g) past) h) [
@@ -181,6 +190,7 @@ known_in (deed ∷ past) whole g h = elim (or_cases (made_known whole g deed) (l
     here (Took n es ds) e = absurd (false≢true e)
     here (Ended ending) e = absurd (false≢true e)
 
+-- what exports a segment is an open
 pub exports_open : (g : ℕ) (m : Message) → exports_segment g m ≡ true → is_opening m ≡ true
 exports_open g (Opens exports a class values) e = refl
 exports_open g (Closes a sleeps) e = absurd (false≢true e)
@@ -188,6 +198,7 @@ exports_open g (Updates a class values) e = absurd (false≢true e)
 exports_open g (Calls a n call args) e = absurd (false≢true e)
 exports_open g (Gone a) e = absurd (false≢true e)
 
+-- a known segment was received
 pub known_received : (end : End) (from to : Past) → IsRun end from → ArrivesWhole from to → (g : ℕ) → is_known from g ≡ true → ExportReceived from to g
 known_received end from to run whole g h =
     let k = known_in from from g h in
@@ -200,6 +211,7 @@ known_received end from to run whole g h =
 
 -- ---- what it takes for opened or closed
 
+-- an actor's last mark was made
 pub mark_at : (a : ℕ) (past : Past) (mark : Mark) → last_mark past a ≡ Some mark → MadeAt past mark.channel (mark.number, mark.message)
 mark_at a [] mark e = absurd (let no : (let o : Option Mark = None in o) ≡ Some mark = e in cc)
 mark_at a (deed ∷ past) mark e = by deed e (λ q. mark_at a past mark q)
@@ -255,6 +267,7 @@ marked_arrived end past run a mark e m same (inr c) =
     let one : parts_of mark.message ≡ 1 = ap parts_of (same ∙ c.1.1) ∙ close_parts c.0 c.1.0 in λ i lo hi.
     arrived_each past mark.channel mark.number 1 c.1.2 i lo (omega (arith, one, hi))
 
+-- an opened actor's open was received
 pub opened_received : (end : End) (from to : Past) → IsRun end from → ArrivesWhole from to → (a : ℕ) → is_opened (state_of from a) ≡ true → MarkReceived from to a
 opened_received end from to run whole a h = by (last_mark from a) refl
   where

@@ -25,9 +25,11 @@ use Rattle.headline_laws.proofs.ReceivedFirst.{arrived_each, whole_there}
 
 -- ---- the marks after a message
 
+-- the message marks the actor
 abbrev pub marks_it : ℕ → Message → Bool
 marks_it a m = (actor_of m == a) && is_mark m
 
+-- the mark that a message leaves
 abbrev pub new_mark : Past → ℕ → Message → Mark
 new_mark past c m = record { channel = c; number = made_count past c + 1; message = m }
 
@@ -56,6 +58,7 @@ listed_end : (past : Past) (a c : ℕ) (m : Message) (i : ℕ) (before : Past) �
 listed_end past a c m zero before lo h = absurd (omega (arith, lo))
 listed_end past a c m (suc i) before lo h = h
 
+-- an actor's marks after one more message
 pub marks_made : (past : Past) (a c : ℕ) (m : Message) → marks_of (after_making past c m) a ≡ cond (marks_it a m) (new_mark past c m ∷ marks_of past a) (marks_of past a)
 marks_made past a c m =
     listed_end past a c m (parts_of m) (after_making past c m) (some_parts m)
@@ -147,6 +150,7 @@ closes_made end past c m may h a = subst (λ (l : List Mark). AllByRecursion (Cl
     by true e = all (marks_of past a) refl e older
     by false e = older
 
+-- each close before the last mark has arrived
 pub closes_arrived : (end : End) (past : Past) → IsRun end past → (a : ℕ) → ClosesArrived past a
 closes_arrived end past run = always end (λ past. (a : ℕ) → ClosesArrived past a) (λ a. tt) step past run
   where
@@ -162,6 +166,7 @@ closes_arrived end past run = always end (λ past. (a : ℕ) → ClosesArrived p
 
 -- ---- and was received
 
+-- a mark stays in its place
 pub at_later : (past : Past) (deed : Deed) (mark : Mark) → MadeAt past mark.channel (mark.number, mark.message) → MadeAt (deed ∷ past) mark.channel (mark.number, mark.message)
 at_later past deed mark at = record { newer = cons_option (numbered_in mark.channel deed) at.newer; older = at.older; split = split (numbered_in mark.channel deed) }
   where
@@ -169,9 +174,11 @@ at_later past deed mark at = record { newer = cons_option (numbered_in mark.chan
     split None = at.split
     split (Some x) = ap (λ (l : List Numbered). x ∷ l) at.split
 
+-- the message of the mark was made
 abbrev pub IsMade : Past → Mark → Type 0
 IsMade past mark = MadeAt past mark.channel (mark.number, mark.message)
 
+-- each mark was made
 pub marks_at : (a : ℕ) (past : Past) → AllByRecursion (IsMade past) (marks_of past a)
 marks_at a [] = tt
 marks_at a (deed ∷ past) = by deed (all_weaker (IsMade past) (IsMade (deed ∷ past)) (λ mark at. at_later past deed mark at) (marks_of past a) (marks_at a past))
@@ -207,6 +214,7 @@ tail_of : (P : Mark → Type 0) (ks : List Mark) → AllByRecursion P ks → All
 tail_of P [] h = tt
 tail_of P (k ∷ ks) h = h.1
 
+-- each close before the last mark was received
 pub closes_received : (left right : End) (l r : Past) → left.version ≡ right.version → IsLink left right l r → (a : ℕ) → ClosesReceived l r a
 closes_received left right l r same link a =
     both_of l r (whole_there left right l r same link) (without_newest (marks_of l a)) (tail_of (IsMade l) (marks_of l a) (marks_at a l)) (closes_arrived left l (left_run left right l r link) a)

@@ -104,6 +104,7 @@ all_among : (P : ℕ → Type 0) (xs : List ℕ) → AllByRecursion P xs → (n 
 all_among P [] h n q = absurd (false≢true q)
 all_among P (x ∷ xs) h n q = elim (among_cons x xs n q) [ inl e ↦ subst P e h.0 | inr e ↦ all_among P xs h.1 n e ]
 
+-- a client that copied spawned actors alone has room for one more
 pub room_for : (past : Past) (a : ℕ) → AllByRecursion IsSpawned (filter_map actor_opened (delivered_of past)) → IsSpawned a → (has_copy past a || nat_lt (length (copied_actors past)) 8192) ≡ true
 room_for past a all spawned = by (has_copy past a) refl
   where

@@ -33,6 +33,7 @@ first_of_range {A} f (suc count) from (x ∷ xs) more e =
     same_tail : {A : Type 0} (x y : A) (xs ys : List A) → x ∷ xs ≡ y ∷ ys → xs ≡ ys
     same_tail x y xs ys e = cc
 
+-- a message has as many bunches as parts
 pub parts_length : (ch first : ℕ) (m : Message) → length (bunches_of ch first m) ≡ parts_of m
 parts_length ch first m = map_length (λ j. made_bunch ch (first + j) m j) (range_with_len 0 (parts_of m)) ∙ range_length (parts_of m) 0
 
@@ -51,6 +52,7 @@ nil_of : {A : Type 0} (xs ys : List A) → xs ++ ys ≡ [] → xs ≡ []
 nil_of [] ys e = refl
 nil_of (x ∷ xs) ys e = absurd (cc)
 
+-- equal lists have equal rests
 pub tail_same : (us xs ys : List Bunch) → us ++ xs ≡ us ++ ys → xs ≡ ys
 tail_same [] xs ys e = e
 tail_same (u ∷ us) xs ys e = tail_same us xs ys (same_tail u (us ++ xs) (us ++ ys) e)
@@ -98,9 +100,11 @@ located ch before k (made ∷ ms) xs ys e = elim (cases_lt (length xs) (parts_of
       kept = ap (λ (l : List Bunch). kept_of (before ++ l)) e ∙ ap kept_of (sym (append_assoc before (bunches_of ch made.0 made.1) more)) ∙ r.kept;
     }
 
+-- a prefix of bunches is whole messages and some parts
 pub position : (ch : ℕ) (ms : List Numbered) (xs : List Bunch) → IsPrefix xs (all_bunches ch ms) → Position ch ms xs
 position ch ms xs p = (let r = located ch [] refl ms xs p.0 p.1 in record { done = r.done; later = r.later; split = r.split; i = r.i; rest = r.rest; begun = r.begun; is = r.is; kept = r.kept })
 
+-- what was applied is so
 pub applied_at : (end : End) (from to : Past) → IsRun end from → AppliesPrefixes from to → (ch : ℕ) → Position ch (messages_on from ch) (applied_of (received_on to ch))
 applied_at end from to run applies ch = position ch (messages_on from ch) (applied_of (received_on to ch)) ((applies ch).0, sym (cut_in_parts end from run ch) ∙ (applies ch).1)
 

@@ -74,11 +74,13 @@ CallKnown entries classes l (Closes a sleeps) = ⊥
 CallKnown entries classes l (Updates a class values) = ⊥
 CallKnown entries classes l (Gone a) = ⊥
 
+-- an item of a client is a call of an actor that the server opened
 abbrev pub ClientItem : List Entry → (classes : ℕ → Class) → (server : Past) → Item → Type 0
 ClientItem entries classes l (Owed n) = Unit {0}
 ClientItem entries classes l (Carries c n b) = Unit {0}
 ClientItem entries classes l (Loose m b) = CallKnown entries classes l m × ((c : ℕ) × ((c == 0) ≡ false) × (b ≡ loose_bunch c m))
 
+-- so is each call that a deed made, left waiting or sent
 abbrev pub ClientDeed : List Entry → (classes : ℕ → Class) → (server : Past) → Past → Deed → Type 0
 ClientDeed entries classes l past (Ticked t s) = Unit {0}
 ClientDeed entries classes l past (Made ch n m i) = ((ch == 0) ≡ false) × CallKnown entries classes l m
@@ -105,6 +107,7 @@ item_later entries classes l later o (Owed n) h = h
 item_later entries classes l later o (Carries c n b) h = h
 item_later entries classes l later o (Loose m b) h = (known_later entries classes l later o m h.0, h.1)
 
+-- it stays so while the server goes on
 pub says_later : (entries : List Entry) (classes : ℕ → Class) (l later : Past) → ((a : ℕ) → was_opened l a ≡ true → was_opened later a ≡ true) → (r : Past) → ClientSays entries classes l r → ClientSays entries classes later r
 says_later entries classes l later o [] h = tt
 says_later entries classes l later o (Ticked t s ∷ r) h = (tt, says_later entries classes l later o r h.1)

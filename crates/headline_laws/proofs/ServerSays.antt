@@ -43,6 +43,7 @@ pub record FoundIn (sight : List Seen) (a : ℕ) (seen : Seen) : Type 0 where
   pub there : slice_get sight i ≡ Some seen
   pub actor : seen.actor ≡ a
 
+-- an actor that is found in a sight stands there
 pub found_in : (sight : List Seen) (a : ℕ) (seen : Seen) → seen_in sight a ≡ Some seen → FoundIn sight a seen
 found_in [] a seen e = absurd (let no : (let o : Option Seen = None in o) ≡ Some seen = e in cc)
 found_in (t ∷ sight) a seen e = by (t.actor == a) refl e (λ q. found_in sight a seen q)
@@ -60,6 +61,7 @@ pub record Passing (test : Seen → Bool) (sight : List Seen) (a : ℕ) : Type 0
   pub found : FoundIn sight a seen
   pub passes : test seen ≡ true
 
+-- an actor that is shown to pass does, in its place
 pub shown_passes : (test : Seen → Bool) (sight : List Seen) (a : ℕ) → is_shown test (seen_in sight a) ≡ true → Passing test sight a
 shown_passes test sight a h = by (seen_in sight a) refl h
   where

@@ -92,6 +92,7 @@ pub seeing_later : (table : Table) (player : ℕ) (more edits : Edits) (sights :
 seeing_later table player more edits [] h = tt
 seeing_later table player more edits (s ∷ sights) h = (more ++ h.0, h.1, h.2, ap (λ (l : Edits). more ++ l) h.3 ∙ sym (append_assoc more h.0 h.1), h.4, h.5)
 
+-- the sights before the newest
 pub seeing_rest : (table : Table) (player : ℕ) (edits : Edits) (s : List Seen) (sights : List (List Seen)) → Seeing table player edits (s ∷ sights) → Seeing table player edits sights
 seeing_rest table player edits s sights h = subst (λ (l : Edits). Seeing table player l sights) (sym h.3) (seeing_later table player h.0 h.1 sights h.5)
 
@@ -113,6 +114,7 @@ feed_blind end (Call a n args ∷ feed) h = call_sights end SeesNothing (past_of
 
 -- ---- what a sight shows
 
+-- edits were accepted before more came
 pub accepted_before : (table : Table) (more edits : Edits) → AreAccepted table (more ++ edits) → AreAccepted table edits
 accepted_before table [] edits h = h
 accepted_before table (edit ∷ more) edits h = accepted_before table more edits h.2
@@ -154,6 +156,7 @@ entered table edits player earlier a seen e = by (is_relevant table edits player
         not_lives false g = refl
     by false false p q h = absurd (let no : (let o : Option Seen = None in o) ≡ Some seen = h in cc)
 
+-- what a sight shows is an actor of the world, as it is
 pub looked : (entries : List Entry) → IsTable entries → (player : ℕ) (more before : Edits) (earlier : List ℕ) → AreAccepted (table_of entries) (more ++ before) → (i : ℕ) (seen : Seen) → slice_get (sight (table_of entries) before player earlier) i ≡ Some seen
     → Looked entries (more ++ before) before seen
 looked entries is player more before earlier ok i seen h =
@@ -188,6 +191,7 @@ pub record Shown (entries : List Entry) (edits : Edits) (seen : Seen) : Type 0 w
   pub is : edits ≡ more ++ before
   pub look : Looked entries edits before seen
 
+-- each actor that a sight showed is one of the last world
 pub shown_by_last : (entries : List Entry) → IsTable entries → (player : ℕ) (edits : Edits) → AreAccepted (table_of entries) edits → (sights : List (List Seen)) → Seeing (table_of entries) player edits sights → (i : ℕ) (seen : Seen)
     → slice_get (unwrap_or (slice_get sights 0) []) i ≡ Some seen → Shown entries edits seen
 shown_by_last entries is player edits ok [] h i seen e = absurd (let no : (let o : Option Seen = None in o) ≡ Some seen = e in cc)

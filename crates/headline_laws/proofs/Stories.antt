@@ -57,9 +57,11 @@ seen_fits entries edits player earlier is ok = all_of_gets SeenFits (sight (tabl
 
 -- ---- one player
 
+-- the sights of a player's feeds fit
 abbrev pub FeedsFit : Player → Type 0
 FeedsFit p = AllByRecursion EventFits p.server_feed × AllByRecursion EventFits p.client_feed
 
+-- it stays so
 abbrev pub Keeps : (Player → Reported) → Type 0
 Keeps does = (p : Player) → FeedsFit p → FeedsFit (does p).0
 
@@ -67,6 +69,7 @@ event_keeps : (side : Side) (event : Event) (p : Player) → EventFits event →
 event_keeps AtServer event p e h = ((e, h.0), h.1)
 event_keeps AtClient event p e h = (h.0, (e, h.1))
 
+-- a report leaves it so
 pub told_keeps : (side : Side) (count : ℕ) (p : Player) → FeedsFit p → FeedsFit (with_told side count p)
 told_keeps AtServer count p h = h
 told_keeps AtClient count p h = h
@@ -81,6 +84,7 @@ delivery_by table edits side k p h (Some bytes) =
     cond_both (nat_lt (k + 8192) (top_of (past_at table side p))) (p, Answered side p.number k Late ∷ [])
     (after_datagram table edits side (λ verdict. Answered side p.number k (Says verdict)) bytes p) (λ (told : Reported). FeedsFit told.0) (λ q. h) (λ q. event_keeps side (Got bytes) p tt h)
 
+-- a delivery leaves it so
 pub delivery_keeps : (table : Table) (edits : Edits) (side : Side) (k : ℕ) → Keeps (after_delivery table edits side k)
 delivery_keeps table edits side k p h = delivery_by table edits side k p h (slice_get (out_at table (other_side side) p) (k - 1))
 
@@ -141,10 +145,12 @@ line_accepted table story (Dump player) h = h
 line_accepted table story (AskSettled player a) h = h
 line_accepted table story (Forge side player bytes) h = h
 
+-- edits were accepted before more lines came
 pub lines_accepted : (table : Table) (lines : List Line) (told : Story × List Report) → AreAccepted table (fold (also_line table) told lines).0.edits → AreAccepted table told.0.edits
 lines_accepted table [] told h = h
 lines_accepted table (line ∷ lines) told h = line_accepted table told.0 line (lines_accepted table lines (also_line table told line) h)
 
+-- all lines leave it so
 pub lines_keep : (entries : List Entry) → IsTable entries → (lines : List Line) (told : Story × List Report) → AreAccepted (table_of entries) (fold (also_line (table_of entries)) told lines).0.edits
     → AllByRecursion FeedsFit told.0.players → AllByRecursion FeedsFit (fold (also_line (table_of entries)) told lines).0.players
 lines_keep entries is [] told ok h = h
@@ -164,6 +170,7 @@ ends_fit entries lines p side is ok joined = by side
     by AtServer = end_fits (end_of (table_of entries) AtServer p) entries is refl p.server_feed feeds.0
     by AtClient = end_fits (end_of (table_of entries) AtClient p) entries is refl p.client_feed feeds.1
 
+-- packets of a past that fits are read back
 pub readable : (table : Table) (side : Side) (p : Player) → PastFits (end_of table side p) (past_at table side p) → IsReadable table side p
 readable table AtServer p f k packet e = packets_read (end_of table AtServer p) (past_at table AtServer p) k packet f e
 readable table AtClient p f k packet e = packets_read (end_of table AtClient p) (past_at table AtClient p) k packet f e

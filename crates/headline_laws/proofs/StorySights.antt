@@ -22,6 +22,7 @@ pub record ShownTo (table : Table) (edits : Edits) (p : Player) : Type 0 where
   pub sees : Seeing table p.number edits (shown_by p.server_feed)
   pub blind : SeesNothing (shown_by p.client_feed)
 
+-- what a player was shown stays so
 abbrev pub Keeps : Table → Edits → (Player → Reported) → Type 0
 Keeps table edits does = (p : Player) → ShownTo table edits p → ShownTo table edits (does p).0
 
@@ -33,6 +34,7 @@ call_shown : (table : Table) (edits : Edits) (side : Side) (a n : ℕ) (args : L
 call_shown table edits AtServer a n args p h = record { sees = h.sees; blind = h.blind }
 call_shown table edits AtClient a n args p h = record { sees = h.sees; blind = h.blind }
 
+-- a report shows nothing
 pub told_shown : (table : Table) (edits : Edits) (side : Side) (count : ℕ) (p : Player) → ShownTo table edits p → ShownTo table edits (with_told side count p)
 told_shown table edits AtServer count p h = record { sees = h.sees; blind = h.blind }
 told_shown table edits AtClient count p h = record { sees = h.sees; blind = h.blind }
@@ -47,6 +49,7 @@ delivery_by table edits side k p h (Some bytes) =
     cond_both (nat_lt (k + 8192) (top_of (past_at table side p))) (p, Answered side p.number k Late ∷ [])
     (after_datagram table edits side (λ verdict. Answered side p.number k (Says verdict)) bytes p) (λ (told : Reported). ShownTo table edits told.0) (λ q. h) (λ q. got_shown table edits side bytes p h)
 
+-- a delivery shows nothing
 pub delivery_keeps : (table : Table) (edits : Edits) (side : Side) (k : ℕ) → Keeps table edits (after_delivery table edits side k)
 delivery_keeps table edits side k p h = delivery_by table edits side k p h (slice_get (out_at table (other_side side) p) (k - 1))
 
@@ -101,6 +104,7 @@ lines_shown : (table : Table) (lines : List Line) (told : Story × List Report) 
 lines_shown table [] told h = h
 lines_shown table (line ∷ lines) told h = lines_shown table lines (also_line table told line) (line_shown table told.0 line h)
 
+-- each player was shown the worlds of the story
 pub players_shown : (table : Table) (lines : List Line) → AllByRecursion (ShownTo table (story_of table lines).0.edits) (story_of table lines).0.players
 players_shown table lines = lines_shown table lines (first_story, []) tt
 

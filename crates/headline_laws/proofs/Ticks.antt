@@ -83,6 +83,7 @@ actors_fit end start p (seen ∷ actors) now packs h s =
 
 -- ---- the tick
 
+-- a tick leaves a past that fits
 pub tick_fits : (end : End) (past : Past) (sight : List Seen) → IsDone (IsRun end) past → AllByRecursion SeenFits sight → PastFits end past → PastFits end (after_tick end past sight)
 tick_fits end past sight done seen f = elim (cases_Bool (has_ended past)) [
   | inl e ↦ rw e f
@@ -119,6 +120,7 @@ tick_fits end past sight done seen f = elim (cases_Bool (has_ended past)) [
 abbrev pub CallsKnow : Side → Past → Type 0
 CallsKnow side past = (a : ℕ) (class : Class) → call_class side past a ≡ Some class → HasLimits class
 
+-- a call that fits is one of a class that is known
 pub meant : (side : Side) (n : ℕ) (args : List Arg) (o : Option Class) (call : Call) → option_and_then (fitting_call side n args) o ≡ Some call → (class : Class) × (o ≡ Some class) × (fitting_call side n args class ≡ Some call)
 meant side n args None call e = absurd (let no : (let o : Option Call = None in o) ≡ Some call = e in cc)
 meant side n args (Some class) call e = (class, refl, e)
@@ -172,5 +174,6 @@ answer_fits end past a n args f know NotOpen = f
 answer_fits end past a n args f know NotOwner = f
 answer_fits end past a n args f know WindowFull = f
 
+-- a call leaves a past that fits
 pub event_call_fits : (end : End) (past : Past) (a n : ℕ) (args : List Arg) → PastFits end past → CallsKnow end.side past → PastFits end (after_call end.side past a n args)
 event_call_fits end past a n args f know = answer_fits end past a n args f know (answer_of end.side past a n args)

@@ -13,7 +13,7 @@ use Rattle.connection_model.specs.Bunches.{made_count, made_bunch, after_making,
 use Rattle.connection_model.specs.Windows.{Received, numbers_of, next_of, as_number, run_of, applied_of, received_on, wholes_from, wholes_of}
 use Rattle.connection_model.specs.Verdict.{with_told, with_handed}
 use Rattle.connection_laws.specs.Run.{Move, Ticks, Makes, Defers, Sends, Takes, Hears, Hands, Ends, after_move, May, IsRun}
-use Rattle.connection_laws.specs.Delivered.{Numbered, numbered_in, messages_on, payload_of, bunches_made, AppliesPrefixes}
+use Rattle.connection_laws.specs.Delivered.{on_index, Numbered, numbered_in, messages_on, payload_of, bunches_made, AppliesPrefixes}
 use Rattle.connection_laws.proofs.Moves.{told_ignored, handed_ignored}
 use Rattle.connection_laws.proofs.Deeds.{always}
 use Rattle.connection_laws.proofs.Counts.{made_count_made, made_count_elsewhere}
@@ -36,9 +36,7 @@ abbrev pub InRow : List Numbered → Type 0
 InRow [] = Unit {0}
 InRow (made ∷ before) = (made.0 ≡ parts_in before + 1) × InRow before
 
-abbrev pub on_index : ℕ → Past → List Numbered
-on_index ch past = filter_map (numbered_in ch) past
-
+-- the messages of an index are numbered by the parts before them, and the bunches made are their parts
 pub record Row (past : Past) (ch : ℕ) : Type 0 where
   pub count : made_count past ch ≡ parts_in (on_index ch past)
   pub row : InRow (on_index ch past)
@@ -65,6 +63,7 @@ row_made past c m h ch = elim (cases_eq c ch) [
           row = subst InRow (sym n) (omega (arith, (h c).count), (h c).row);
         }
 
+-- they are so in a run
 pub rows : (end : End) (past : Past) → IsRun end past → (ch : ℕ) → Row past ch
 rows end past run = always end (λ past. (ch : ℕ) → Row past ch) (λ ch. record { count = refl; row = tt }) step past run
   where
@@ -80,6 +79,7 @@ rows end past run = always end (λ past. (ch : ℕ) → Row past ch) (λ ch. rec
 
 -- ---- the longer of two beginnings goes on with the other
 
+-- of two prefixes the longer goes on from the shorter
 pub longer : {A : Type 0} (xs ys us vs : List A) → xs ++ ys ≡ us ++ vs → length us ≤ length xs → (more : List A) × (xs ≡ us ++ more)
 longer xs ys [] vs e h = (xs, refl)
 longer [] ys (u ∷ us) vs e h = absurd (omega (arith, h))
@@ -118,19 +118,23 @@ run_length got (suc count) from h =
     let rest : length (run_of got (from + 1) count) ≡ count = run_length got count (from + 1) (λ i lo hi. h i (omega (arith, lo)) (omega (arith, hi))) in
     ap (λ (o : Option Bunch). length (cons_option o (run_of got (from + 1) count))) f.1 ∙ ap suc rest
 
+-- the run applied ends before the next number
 pub applied_length : (got : List Received) → length (applied_of got) ≡ next_of got - 1
 applied_length got = run_length got (next_of got - 1) 1 (λ i lo hi. below_next got i lo (omega (arith, hi, next_low got)))
 
 -- ---- messages and their bunches
 
+-- mapping keeps the length
 pub map_length : {A B : Type 0} (f : A → B) (xs : List A) → length (map f xs) ≡ length xs
 map_length f [] = refl
 map_length f (x ∷ xs) = ap suc (map_length f xs)
 
+-- a range is as long as its count
 pub range_length : (count from : ℕ) → length (range_with_len from count) ≡ count
 range_length zero from = refl
 range_length (suc count) from = ap suc (range_length count (from + 1))
 
+-- messages have as many bunches as parts
 pub bunches_length : (ch : ℕ) (ms : List Numbered) → length (flat_map (bunches_of ch) ms) ≡ parts_in ms
 bunches_length ch [] = refl
 bunches_length ch (x ∷ ms) =
@@ -187,5 +191,6 @@ short_in end (Sent n t items ∷ past) ch f = short_in end past ch f.1
 short_in end (Took n es ds ∷ past) ch f = short_in end past ch f.1
 short_in end (Ended g ∷ past) ch f = short_in end past ch f.1
 
+-- each message made has at most 70,000 bits
 pub messages_short : (end : End) (past : Past) (ch : ℕ) → PastFits end past → AllByRecursion (λ (made : Numbered). length (message_bits made.1) ≤ 70000) (messages_on past ch)
 messages_short end past ch f = all_reverse (λ (made : Numbered). length (message_bits made.1) ≤ 70000) (on_index ch past) (short_in end past ch f)
