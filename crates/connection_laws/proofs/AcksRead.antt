@@ -174,6 +174,15 @@ left_next all before s rest n e l = (
   ap (drop (suc n)) (e ∙ sym (append_assoc before (s ∷ []) rest)) ∙ drop_at (before ++ s ∷ []) rest (suc n) (omega (arith, length-append before (s ∷ []), l)),
 )
 
+-- no item is a head
+items_no_head : (head : Head) (items : List Item) → IsIn (SaysHead head) (map (λ (item : Item). SaysItem item) items) → ⊥
+items_no_head head [] h = h
+items_no_head head (item ∷ items) (inl e) = never e
+  where
+    never : SaysItem item ≡ SaysHead head → ⊥
+    never e = cc
+items_no_head head (item ∷ items) (inr h) = items_no_head head items h
+
 -- in version One no packet has a head, in version Two it comes first
 no_heads : (past : Past) (k : ℕ) (head : Head) → IsIn (SaysHead head) (said_by One past k) → ⊥
 no_heads [] k head h = h
@@ -184,16 +193,8 @@ no_heads (Took n es ds ∷ past) k head h = no_heads past k head h
 no_heads (Ended g ∷ past) k head h = no_heads past k head h
 no_heads (Sent number t items ∷ past) k head h = by (number == k) h (λ q. no_heads past k head q)
   where
-    none : (items : List Item) → IsIn (SaysHead head) (map (λ (item : Item). SaysItem item) items) → ⊥
-    none [] h = h
-    none (item ∷ items) (inl e) = never e
-      where
-        never : SaysItem item ≡ SaysHead head → ⊥
-        never e = cc
-    none (item ∷ items) (inr h) = none items h
-
     by : (b : Bool) → IsIn (SaysHead head) (cond b (all_said One past items) (said_by One past k)) → (IsIn (SaysHead head) (said_by One past k) → ⊥) → ⊥
-    by true h ih = none items h
+    by true h ih = items_no_head head items h
     by false h ih = ih h
 
 -- what comes after the first
@@ -210,16 +211,8 @@ head_first (Took n es ds ∷ past) k head h = head_first past k head h
 head_first (Ended g ∷ past) k head h = head_first past k head h
 head_first (Sent number t items ∷ past) k head h = by (number == k) h (λ q. head_first past k head q)
   where
-    none : (items : List Item) → IsIn (SaysHead head) (map (λ (item : Item). SaysItem item) items) → ⊥
-    none [] h = h
-    none (item ∷ items) (inl e) = never e
-      where
-        never : SaysItem item ≡ SaysHead head → ⊥
-        never e = cc
-    none (item ∷ items) (inr h) = none items h
-
     by : (b : Bool) → IsIn (SaysHead head) (rest_of (cond b (all_said Two past items) (said_by Two past k))) → (IsIn (SaysHead head) (rest_of (said_by Two past k)) → ⊥) → ⊥
-    by true h ih = none items h
+    by true h ih = items_no_head head items h
     by false h ih = ih h
 
 none_before : (past : Past) (k : ℕ) (head : Head) (before rest : List Said) → said_by Two past k ≡ before ++ SaysHead head ∷ rest → before ≡ []

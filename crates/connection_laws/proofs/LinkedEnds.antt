@@ -22,7 +22,7 @@ use Rattle.connection_laws.proofs.PacketsSay.{IsIn}
 use Rattle.connection_model.specs.Pack.{after_sending}
 use Rattle.connection_laws.specs.Run.{Move, Ticks, Makes, Defers, Sends, Takes, Hears, Hands, Ends, after_move, May, IsRun, acknowledged_of, acknowledged_in}
 use Rattle.connection_laws.specs.Run.IsRun.{does, start as run_start}
-use Rattle.connection_laws.specs.Link.{entry_said, said_by, MayCome, IsWhole, IsNext, IsHonest, IsLink, done_of}
+use Rattle.connection_laws.specs.Link.{entry_said, said_by, MayCome, IsWhole, IsNext, IsFaithful, IsLink, done_of}
 use Rattle.connection_laws.specs.Link.IsLink.{start, left_does, right_does}
 use Rattle.connection_laws.specs.Delivered.{ReadsRight}
 use Rattle.connection_laws.proofs.Moves.{making_keeps, made_ignored_all, told_ignored_all, handed_ignored_all}
@@ -218,7 +218,7 @@ module _ (v : Version) (mine theirs : End) (mv : mine.version ≡ v) (tv : their
     said = fresh_other v other me (Ended g ∷ me) (λ k. refl) refl refl (λ k. refl) b.said;
   }
 
-  pub step : (me : Past) (move : Move) → IsRun mine me → Both v me other → has_ended me ≡ false → May mine me move → IsHonest v other me move → Both v (after_move me move) other
+  pub step : (me : Past) (move : Move) → IsRun mine me → Both v me other → has_ended me ≡ false → May mine me move → IsFaithful v other me move → Both v (after_move me move) other
   step me (Ticks sight) run b alive may honest =
       quiet me (Ticked (tick_count me + 1) sight ∷ me) b alive honest (λ k. refl) refl refl (λ ch. omega arith) (λ ch n le. refl) refl refl (λ ch. refl) (tt, refl, tt) refl (λ k. refl)
   step me (Makes c m) run b alive may honest =
@@ -255,11 +255,11 @@ pub both : (v : Version) (left right : End) → left.version ≡ v → right.ver
 both v left right lv rv l r start = record { out = core_start v; back = core_start v; heard = fresh_start v; said = fresh_start v }
 both v left right lv rv l r (left_does {l = a} {r = b} move link alive may honest) =
     step v left right lv rv b (right_run left right a b link) a move (left_run left right a b link) (both v left right lv rv a b link) alive may
-    (subst (λ (w : Version). IsHonest w b a move) lv honest)
+    (subst (λ (w : Version). IsFaithful w b a move) lv honest)
 both v left right lv rv l r (right_does {l = a} {r = b} move link alive may honest) =
     turned v (after_move b move) a
     (step v right left rv lv a (left_run left right a b link) b move (right_run left right a b link) (turned v a b (both v left right lv rv a b link)) alive may
-    (subst (λ (w : Version). IsHonest w a b move) rv honest))
+    (subst (λ (w : Version). IsFaithful w a b move) rv honest))
 
 -- ---- what is heard next names what was sent
 

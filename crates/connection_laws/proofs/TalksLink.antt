@@ -18,7 +18,7 @@ use Rattle.connection_model.specs.Bunches.{after_making}
 use Rattle.connection_model.specs.Pack.{rec_of, packet_carrying}
 use Rattle.connection_model.specs.Verdict.{with_told, with_handed, entry_result, after_entries, entry_of, entries_in, after_packet, after_reading, ack_cause}
 use Rattle.connection_laws.specs.Run.{Move, Ticks, Makes, Defers, Sends, Takes, Hears, Hands, Ends, after_move, May, IsRun}
-use Rattle.connection_laws.specs.Link.{Said, SaysItem, entry_said, all_said, said_by, MayCome, IsWhole, IsHonest, IsLink}
+use Rattle.connection_laws.specs.Link.{Said, SaysItem, entry_said, all_said, said_by, MayCome, IsWhole, IsFaithful, IsLink}
 use Rattle.connection_laws.specs.Link.IsLink.{start as link_start, left_does, right_does}
 use Rattle.connection_laws.specs.Talk.{packet_at, IsPacketOf, MayHear, IsTalk}
 use Rattle.connection_laws.specs.Talk.IsTalk.{start, left_hears, right_hears}
@@ -103,7 +103,7 @@ stays_on v past later (Ends g) h = record { more = h.more; same = h.same }
 -- what goes on with each honest move, where the other end stands still
 pub record Talks (v : Version) (mine : End) (other : Past) (R : Past → Type 0) : Type 0 where
   pub is_run : (past : Past) → R past → IsRun mine past
-  pub goes : (past : Past) (move : Move) → R past → has_ended past ≡ false → May mine past move → IsHonest v other past move → R (after_move past move)
+  pub goes : (past : Past) (move : Move) → R past → has_ended past ≡ false → May mine past move → IsFaithful v other past move → R (after_move past move)
   pub reads : (past : Past) → R past → (k : ℕ) → MayCome past other k → near (k % 16384) (pos (top_of past)) 16384 ≡ pos k
 
 abbrev WholeUpTo : Version → Past → ℕ → Past → Type 0
@@ -238,10 +238,37 @@ pub record Talked (v : Version) (left right : End) (l r : Past) : Type 0 where
   pub right_few : has_ended r ≡ false → unresolved_count r < 4096
 
 module _ (v : Version) (left right : End) (lv : left.version ≡ v) (rv : right.version ≡ v) where
+  -- the left end goes on with a link, and with what it said
+  left_talks : (l r : Past) → Talks v left r (λ (p : Past). IsLink left right p r × Stays v l p)
+  left_talks l r = record {
+    is_run = λ past g. left_run left right past r g.0;
+    goes = λ past move g alive may faithful. (left_does move g.0 alive may (subst (λ (w : Version). IsFaithful w r past move) (sym lv) faithful), stays_on v l past move g.1);
+    reads = λ past g k come. (reads_back left right past r (lv ∙ sym rv) g.0).packet k come;
+  }
+
+  right_talks : (l r : Past) → Talks v right l (λ (p : Past). IsLink left right l p × Stays v r p)
+  right_talks l r = record {
+    is_run = λ past g. right_run left right l past g.0;
+    goes = λ past move g alive may faithful. (right_does move g.0 alive may (subst (λ (w : Version). IsFaithful w l past move) (sym rv) faithful), stays_on v r past move g.1);
+    reads = λ past g k come. (reads_there left right l past (lv ∙ sym rv) g.0).packet k come;
+  }
+
+  -- so it does at each event
+  left_done : (l r : Past) (event : Event) → Talked v left right l r → MayHear left right l r event
+      → IsDone (λ (p : Past). (IsLink left right p r × Stays v l p) × IsWhole v r p) (after_event left l event)
+  left_done l r event h q =
+      event_talks v left lv r (λ (p : Past). IsLink left right p r × Stays v l p) (left_talks l r) right rv l event
+      (record { run = ((h.link, record { more = omega arith; same = λ k le. refl }), h.left_whole); few = h.left_few }) q
+
+  right_done : (l r : Past) (event : Event) → Talked v left right l r → MayHear right left r l event
+      → IsDone (λ (p : Past). (IsLink left right l p × Stays v r p) × IsWhole v l p) (after_event right r event)
+  right_done l r event h q =
+      event_talks v right rv l (λ (p : Past). IsLink left right l p × Stays v r p) (right_talks l r) left lv r event
+      (record { run = ((h.link, record { more = omega arith; same = λ k le. refl }), h.right_whole); few = h.right_few }) q
+
   left_next : (l r : Past) (event : Event) → Talked v left right l r → MayHear left right l r event → Talked v left right (after_event left l event) r
   left_next l r event h q =
-      let done = event_talks v left lv r (λ (p : Past). IsLink left right p r × Stays v l p) talks right rv l event
-      (record { run = ((h.link, record { more = omega arith; same = λ k le. refl }), h.left_whole); few = h.left_few }) q in
+      let done = left_done l r event h q in
       record {
         link = done.run.0.0;
         left_whole = done.run.1;
@@ -249,18 +276,10 @@ module _ (v : Version) (left right : End) (lv : left.version ≡ v) (rv : right.
         left_few = done.few;
         right_few = h.right_few;
       }
-    where
-      talks : Talks v left r (λ (p : Past). IsLink left right p r × Stays v l p)
-      talks = record {
-        is_run = λ past g. left_run left right past r g.0;
-        goes = λ past move g alive may honest. (left_does move g.0 alive may (subst (λ (w : Version). IsHonest w r past move) (sym lv) honest), stays_on v l past move g.1);
-        reads = λ past g k come. (reads_back left right past r (lv ∙ sym rv) g.0).packet k come;
-      }
 
   right_next : (l r : Past) (event : Event) → Talked v left right l r → MayHear right left r l event → Talked v left right l (after_event right r event)
   right_next l r event h q =
-      let done = event_talks v right rv l (λ (p : Past). IsLink left right l p × Stays v r p) talks left lv r event
-      (record { run = ((h.link, record { more = omega arith; same = λ k le. refl }), h.right_whole); few = h.right_few }) q in
+      let done = right_done l r event h q in
       record {
         link = done.run.0.0;
         left_whole = whole_stays v r (after_event right r event) l (λ n e. done.run.0.1.same n ((reads_back left right l r (lv ∙ sym rv) h.link).taken n e).1) h.left_whole;
@@ -268,38 +287,13 @@ module _ (v : Version) (left right : End) (lv : left.version ≡ v) (rv : right.
         left_few = h.left_few;
         right_few = done.few;
       }
-    where
-      talks : Talks v right l (λ (p : Past). IsLink left right l p × Stays v r p)
-      talks = record {
-        is_run = λ past g. right_run left right l past g.0;
-        goes = λ past move g alive may honest. (right_does move g.0 alive may (subst (λ (w : Version). IsHonest w l past move) (sym rv) honest), stays_on v r past move g.1);
-        reads = λ past g k come. (reads_there left right l past (lv ∙ sym rv) g.0).packet k come;
-      }
 
   -- what an end said before stays in what it does at an event
   pub left_stays : (l r : Past) (event : Event) → Talked v left right l r → MayHear left right l r event → Stays v l (after_event left l event)
-  left_stays l r event h q =
-      (event_talks v left lv r (λ (p : Past). IsLink left right p r × Stays v l p) talks right rv l event
-      (record { run = ((h.link, record { more = omega arith; same = λ k le. refl }), h.left_whole); few = h.left_few }) q).run.0.1
-    where
-      talks : Talks v left r (λ (p : Past). IsLink left right p r × Stays v l p)
-      talks = record {
-        is_run = λ past g. left_run left right past r g.0;
-        goes = λ past move g alive may honest. (left_does move g.0 alive may (subst (λ (w : Version). IsHonest w r past move) (sym lv) honest), stays_on v l past move g.1);
-        reads = λ past g k come. (reads_back left right past r (lv ∙ sym rv) g.0).packet k come;
-      }
+  left_stays l r event h q = (left_done l r event h q).run.0.1
 
   pub right_stays : (l r : Past) (event : Event) → Talked v left right l r → MayHear right left r l event → Stays v r (after_event right r event)
-  right_stays l r event h q =
-      (event_talks v right rv l (λ (p : Past). IsLink left right l p × Stays v r p) talks left lv r event
-      (record { run = ((h.link, record { more = omega arith; same = λ k le. refl }), h.right_whole); few = h.right_few }) q).run.0.1
-    where
-      talks : Talks v right l (λ (p : Past). IsLink left right l p × Stays v r p)
-      talks = record {
-        is_run = λ past g. right_run left right l past g.0;
-        goes = λ past move g alive may honest. (right_does move g.0 alive may (subst (λ (w : Version). IsHonest w l past move) (sym rv) honest), stays_on v r past move g.1);
-        reads = λ past g k come. (reads_there left right l past (lv ∙ sym rv) g.0).packet k come;
-      }
+  right_stays l r event h q = (right_done l r event h q).run.0.1
 
   pub talked : (l r : List Event) → IsTalk left right l r → Talked v left right (past_of left l) (past_of right r)
   talked l r start = record { link = link_start; left_whole = tt; right_whole = tt; left_few = λ e. omega arith; right_few = λ e. omega arith }

@@ -24,7 +24,8 @@ pub record ReadsRight (from to : Past) : Type 0 where
   pub taken : (k : ℕ) → is_among k (taken_of to) ≡ true → (1 ≤ k) × (k ≤ last_sent from)
   pub moved : (k : ℕ) → is_among k (moved_of from) ≡ true → is_among k (done_of to) ≡ true
   pub received : (ch n : ℕ) → is_among n (numbers_of (received_on to ch)) ≡ true
-      → (1 ≤ n) × (n ≤ made_count from ch) × (newest_of (as_number n) (received_on to ch) ≡ newest_of (made_as ch n) from)
+      → (1 ≤ n) × (n ≤ made_count from ch)
+      × (newest_of (as_number n) (received_on to ch) ≡ newest_of (made_as ch n) from)
 
 -- the reliable bunches made on an index, the oldest first
 abbrev pub bunches_made : Past → (ch : ℕ) → List Bunch
@@ -93,12 +94,16 @@ HandsReceived end past = (ch : ℕ) → ReadEach end (handed_reliably past ch) (
 
 -- a bunch that was made, comes before its turn and is new finds room among those that are held
 abbrev pub NeverOverruns : (from to : Past) → Type 0
-NeverOverruns from to = (ch n : ℕ) → next_of (received_on to ch) < n → n ≤ made_count from ch → is_among n (numbers_of (received_on to ch)) ≡ false → held_count to < held_limit
+NeverOverruns from to =
+    (ch n : ℕ) → next_of (received_on to ch) < n → n ≤ made_count from ch
+    → is_among n (numbers_of (received_on to ch)) ≡ false → held_count to < held_limit
 
 -- no part of the run breaks a rule of joining, where these parts are kept
 abbrev pub JoinsFrom : (kept : List Bunch) → List Bunch → Type 0
 JoinsFrom kept [] = Unit {0}
-JoinsFrom kept (b ∷ run) = (part_fault kept b b.part ≡ None) × MatchBool (ends_payload b) (JoinsFrom [] run) (JoinsFrom (b ∷ kept) run)
+JoinsFrom kept (b ∷ run) =
+    (part_fault kept b b.part ≡ None)
+    × MatchBool (ends_payload b) (JoinsFrom [] run) (JoinsFrom (b ∷ kept) run)
 
 -- so on every index, over the run that was applied there
 abbrev pub AllJoin : Past → Type 0
@@ -107,5 +112,7 @@ AllJoin past = (ch : ℕ) → JoinsFrom [] (applied_of (received_on past ch))
 -- where each message made on an index has at most as many bits as a payload may have, joining refuses no
 -- part that is applied
 abbrev pub NeverMisjoins : (from to : Past) → Type 0
-NeverMisjoins from to = (ch : ℕ) → AllByRecursion (λ (made : Numbered). length (message_bits made.1) ≤ payload_bits) (messages_on from ch)
+NeverMisjoins from to =
+    (ch : ℕ)
+    → AllByRecursion (λ (made : Numbered). length (message_bits made.1) ≤ payload_bits) (messages_on from ch)
     → JoinsFrom [] (applied_of (received_on to ch))

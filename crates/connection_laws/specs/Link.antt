@@ -52,22 +52,26 @@ IsNext v other past entry = Unit {0}
 
 -- the move is one over a network that alters nothing: a packet is taken that the other end sent, by the
 -- number that is read of it, and is heard entry by entry, to its end unless this end ends before
-abbrev pub IsHonest : Version → (other me : Past) → Move → Type 0
-IsHonest v other me (Takes n) = IsWhole v other me × ((k : ℕ) × MayCome me other k × (near (k % packet_modulus) (pos (top_of me)) packet_modulus ≡ pos n))
-IsHonest v other me (Hears entry) = IsNext v other me entry
-IsHonest v other me (Hands d) = Unit {0}
-IsHonest v other me (Ends ending) = Unit {0}
-IsHonest v other me (Ticks sight) = IsWhole v other me
-IsHonest v other me (Makes ch message) = IsWhole v other me
-IsHonest v other me (Defers message) = IsWhole v other me
-IsHonest v other me (Sends items) = IsWhole v other me
+abbrev pub IsFaithful : Version → (other me : Past) → Move → Type 0
+IsFaithful v other me (Takes n) =
+    IsWhole v other me
+    × ((k : ℕ) × MayCome me other k × (near (k % packet_modulus) (pos (top_of me)) packet_modulus ≡ pos n))
+IsFaithful v other me (Hears entry) = IsNext v other me entry
+IsFaithful v other me (Hands d) = Unit {0}
+IsFaithful v other me (Ends ending) = Unit {0}
+IsFaithful v other me (Ticks sight) = IsWhole v other me
+IsFaithful v other me (Makes ch message) = IsWhole v other me
+IsFaithful v other me (Defers message) = IsWhole v other me
+IsFaithful v other me (Sends items) = IsWhole v other me
 
 -- the pasts that two ends come to by such moves, either of them at a time
 pub data IsLink (left right : End) : Past → Past → Type 0 where
   start : IsLink left right [] []
-  left_does : {l r : Past} (move : Move) → IsLink left right l r → has_ended l ≡ false → May left l move → IsHonest left.version r l move
+  left_does : {l r : Past} (move : Move) → IsLink left right l r → has_ended l ≡ false → May left l move
+      → IsFaithful left.version r l move
       → IsLink left right (after_move l move) r
-  right_does : {l r : Past} (move : Move) → IsLink left right l r → has_ended r ≡ false → May right r move → IsHonest right.version l r move
+  right_does : {l r : Past} (move : Move) → IsLink left right l r → has_ended r ≡ false → May right r move
+      → IsFaithful right.version l r move
       → IsLink left right l (after_move r move)
 
 -- this holds of two pasts both ways: of what the one sent and the other did, and the other way round

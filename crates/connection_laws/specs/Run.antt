@@ -138,7 +138,8 @@ HasLoosePlace end past ch (Calls actor number call args) =
 abbrev pub MaySend : End → Past → Item → Type 0
 MaySend end past (Owed number) = is_among number (taken_of past) ≡ true
 MaySend end past (Carries ch n bunch) = IsWaiting past ch n bunch
-MaySend end past (Loose message bunch) = (ch : ℕ) × (bunch ≡ loose_bunch ch message) × HasLoosePlace end past ch message
+MaySend end past (Loose message bunch) =
+    (ch : ℕ) × (bunch ≡ loose_bunch ch message) × HasLoosePlace end past ch message
 
 -- the number that an item acknowledges
 abbrev pub owed_in : Item → Option ℕ
@@ -180,7 +181,7 @@ pub record MaySendAll (end : End) (past : Past) (items : List Item) : Type 0 whe
 -- ---- runs
 
 -- what an end that is alive may do next. What comes from the other end is bound by little: a packet that is
--- taken has a number above those taken before, and an acknowledgement that is heard has a cause for no refusal
+-- taken has a number above those taken before, and an acknowledgement that is heard names what was sent
 abbrev pub May : End → Past → Move → Type 0
 May end past (Ticks sight) = Unit {0}
 May end past (Makes ch message) = MayMake end past ch message
@@ -194,4 +195,5 @@ May end past (Ends ending) = Unit {0}
 -- a past that came of such moves, from nothing
 pub data IsRun (end : End) : Past → Type 0 where
   start : IsRun end []
-  does : {past : Past} (move : Move) → IsRun end past → has_ended past ≡ false → May end past move → IsRun end (after_move past move)
+  does : {past : Past} (move : Move) → IsRun end past → has_ended past ≡ false → May end past move
+      → IsRun end (after_move past move)

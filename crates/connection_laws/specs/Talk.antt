@@ -10,7 +10,8 @@ use Rattle.connection_laws.specs.Link.{MayCome}
 -- packet k as it was sent, if one was sent by that number
 abbrev pub packet_at : End → Past → (k : ℕ) → Option Packet
 packet_at end [] k = None
-packet_at end (Sent number t items ∷ past) k = if number == k then Some (packet_carrying end past number items) else packet_at end past k
+packet_at end (Sent number t items ∷ past) k =
+    if number == k then Some (packet_carrying end past number items) else packet_at end past k
 packet_at end (deed ∷ past) k = packet_at end past k
 
 -- the bytes are read as a packet of the other end that may come
@@ -30,7 +31,9 @@ MayHear mine theirs me other (Got bytes) = IsPacketOf mine theirs me other bytes
 -- the feeds of two ends of whom each hears only ticks, calls and packets of the other
 pub data IsTalk (left right : End) : List Event → List Event → Type 0 where
   start : IsTalk left right [] []
-  left_hears : {l r : List Event} (event : Event) → IsTalk left right l r → MayHear left right (past_of left l) (past_of right r) event
+  left_hears : {l r : List Event} (event : Event) → IsTalk left right l r
+      → MayHear left right (past_of left l) (past_of right r) event
       → IsTalk left right (event ∷ l) r
-  right_hears : {l r : List Event} (event : Event) → IsTalk left right l r → MayHear right left (past_of right r) (past_of left l) event
+  right_hears : {l r : List Event} (event : Event) → IsTalk left right l r
+      → MayHear right left (past_of right r) (past_of left l) event
       → IsTalk left right l (event ∷ r)

@@ -16,8 +16,8 @@ ghost use Rattle.connection_laws.specs.Delivered.{is_closed_by, HandsReceived};
 ghost use Rattle.connection_laws.specs.InTurn.{BracketsFit};
 ghost use Rattle.connection_laws.specs.SentStays.{SendsMore};
 
-/// What an end does, whatever it hears, is a run; and while it is alive, a fate is free for its next
-/// packet.
+/// What an end does, whatever it hears, is a run; and while it is alive, a fate is free for its
+/// next packet.
 pub fn every_feed_runs()
     ensures run { (end : End) (feed : List Event) → IsRun end (past_of end feed) }
     ensures few { (end : End) (feed : List Event) → has_ended (past_of end feed) ≡ false
@@ -56,8 +56,8 @@ pub fn acknowledged_once()
     ensures { (end : End) (past : Past) → IsRun end past → AcknowledgesTaken past }
 {}
 
-/// What an end hands on from each index is what it received whole there, read one by one, as long as
-/// no datagram closed it.
+/// What an end hands on from each index is what it received whole there, read one by one, as long
+/// as no datagram closed it.
 pub fn hands_on_in_order()
     ensures { (end : End) (feed : List Event) → is_closed_by (past_of end feed) ≡ false
         → HandsReceived end (past_of end feed) }

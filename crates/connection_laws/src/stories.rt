@@ -23,8 +23,8 @@ pub fn stories_talk()
         → AllRead table lines p.number → IsTalking table p }
 {}
 
-/// So, after all lines of a script, numbers are read right between them, and on each index the whole
-/// payloads received are a prefix of the messages made.
+/// So, after all lines of a script, numbers are read right between them, and on each index the
+/// whole payloads received are a prefix of the messages made.
 pub fn stories_deliver()
     ensures read { (table : Table) (lines : List Line) (p : Player)
         → IsHonestPlayer table lines p → AllRead table lines p.number

@@ -14,7 +14,7 @@ use Rattle.connection_model.specs.Windows.{Received, received_on, received_by, n
 use Rattle.connection_model.specs.Verdict.{with_told, with_handed}
 use Rattle.connection_laws.specs.Run.{Move, Ticks, Makes, Defers, Sends, Takes, Hears, Hands, Ends, after_move, MaySend, IsRun}
 use Rattle.connection_laws.specs.Deeds.{FitsBefore, EachDeed}
-use Rattle.connection_laws.specs.Link.{Said, SaysHead, SaysItem, entry_said, said_by, IsNext, IsLink, IsHonest}
+use Rattle.connection_laws.specs.Link.{Said, SaysHead, SaysItem, entry_said, said_by, IsNext, IsLink, IsFaithful}
 use Rattle.connection_laws.specs.Link.IsLink.{start, left_does, right_does}
 use Rattle.connection_laws.proofs.Transfer.{Transfers, good, in_span_of}
 use Rattle.connection_laws.proofs.Deeds.{deeds_fit, each_at}
@@ -100,7 +100,7 @@ module _ (v : Version) (left right : End) (lv : left.version ≡ v) (rv : right.
   told_step l (Sent n t items ∷ past) entry link next h = h
   told_step l (Ended g ∷ past) entry link next h = h
 
-  right_step : (l b : Past) (move : Move) → IsLink left right l b → IsHonest right.version l b move → CameFrom v l b → CameFrom v l (after_move b move)
+  right_step : (l b : Past) (move : Move) → IsLink left right l b → IsFaithful right.version l b move → CameFrom v l b → CameFrom v l (after_move b move)
   right_step l b (Ticks sight) link honest h = came_like v l b (after_move b (Ticks sight)) (λ ch. refl) refl h
   right_step l b (Makes c m) link honest h = came_like v l b (after_making b c m) (λ ch. ap (λ (es : List Entry). received_by es ch) (made_ignored_all entries_in (λ c n m i. refl) b c m)) (taken_made b c m) h
   right_step l b (Defers m) link honest h = came_like v l b (after_move b (Defers m)) (λ ch. refl) refl h

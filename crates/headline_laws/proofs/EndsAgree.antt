@@ -25,7 +25,7 @@ use Rattle.connection_model.specs.Verdict as Verdicts
 use Rattle.connection_model.specs.Windows.{received_by, applied_of, wholes_from, wholes_of}
 use Rattle.connection_laws.specs.Run.{Move, Ticks, Makes, Defers, Sends, Takes, Hears, Hands, Ends, after_move, May, IsRun}
 use Rattle.connection_laws.specs.Delivered.{messages_on, payload_of}
-use Rattle.connection_laws.specs.Link.{Said, entry_said, said_by, IsWhole, IsHonest, IsLink}
+use Rattle.connection_laws.specs.Link.{Said, entry_said, said_by, IsWhole, IsFaithful, IsLink}
 use Rattle.connection_laws.specs.Link.IsLink.{start as link_start, left_does, right_does}
 use Rattle.connection_laws.specs.Talk.{IsPacketOf, MayHear, IsTalk, packet_at}
 use Rattle.connection_laws.specs.Talk.IsTalk.{start, left_hears, right_hears}
@@ -177,9 +177,9 @@ module _ (entries : List Entry) (is : IsTable entries) (player : ℕ) (edits : E
   left_goes : (r l : Past) (move : Move) → IsQuiet move → Agrees l r × IsWhole v r l → has_ended l ≡ false → May left l move → Agrees (after_move l move) r × IsWhole v r (after_move l move)
   left_goes r l move quiet h alive may = by move quiet may
     where
-      on : (move : Move) → IsQuiet move → May left l move → IsHonest v r l move → Agrees (after_move l move) r
+      on : (move : Move) → IsQuiet move → May left l move → IsFaithful v r l move → Agrees (after_move l move) r
       on move quiet may honest =
-          left_still l r move (quiet_still move quiet) may (left_does move h.0.follower.link alive may (subst (λ w. IsHonest w r l move) (sym lv) honest)) (subst (Seeing (table_of entries) player edits) (sym (sights_quiet l move quiet)) h.0.sees) h.0
+          left_still l r move (quiet_still move quiet) may (left_does move h.0.follower.link alive may (subst (λ w. IsFaithful w r l move) (sym lv) honest)) (subst (Seeing (table_of entries) player edits) (sym (sights_quiet l move quiet)) h.0.sees) h.0
 
       by : (move : Move) → IsQuiet move → May left l move → Agrees (after_move l move) r × IsWhole v r (after_move l move)
       by (Ticks sight) q may = absurd q
@@ -194,9 +194,9 @@ module _ (entries : List Entry) (is : IsTable entries) (player : ℕ) (edits : E
   right_goes : (l r : Past) (move : Move) → IsQuiet move → Agrees l r × IsWhole v l r → has_ended r ≡ false → May right r move → Agrees l (after_move r move) × IsWhole v l (after_move r move)
   right_goes l r move quiet h alive may = by move quiet may
     where
-      on : (move : Move) → IsQuiet move → May right r move → IsHonest v l r move → Agrees l (after_move r move)
+      on : (move : Move) → IsQuiet move → May right r move → IsFaithful v l r move → Agrees l (after_move r move)
       on move quiet may honest =
-          right_still l r move (quiet_still move quiet) may (right_does move h.0.follower.link alive may (subst (λ w. IsHonest w l r move) (sym rv) honest)) (subst SeesNothing (sym (sights_quiet r move quiet)) h.0.blind) h.0
+          right_still l r move (quiet_still move quiet) may (right_does move h.0.follower.link alive may (subst (λ w. IsFaithful w l r move) (sym rv) honest)) (subst SeesNothing (sym (sights_quiet r move quiet)) h.0.blind) h.0
 
       by : (move : Move) → IsQuiet move → May right r move → Agrees l (after_move r move) × IsWhole v l (after_move r move)
       by (Ticks sight) q may = absurd q

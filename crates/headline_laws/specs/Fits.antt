@@ -34,9 +34,13 @@ OpenFits (Updates actor class values) = Unit {0}
 OpenFits (Calls actor number call args) = Unit {0}
 OpenFits (Gone actor) = Unit {0}
 
--- the item can be spelled, in few enough bits for an empty packet
+-- an item takes at most this many bits, with which any start of a packet fits
+abbrev pub item_bits : ℕ
+item_bits = 7500
+
+-- the item can be spelled, and fits an empty packet
 abbrev pub ItemFits : Version → Item → Type 0
-ItemFits v item = (is_rec v (rec_of item) ≡ true) × (length (rec_bits v (rec_of item)) ≤ 7500)
+ItemFits v item = (is_rec v (rec_of item) ≡ true) × (length (rec_bits v (rec_of item)) ≤ item_bits)
 
 -- how many bits the start of a packet takes, were one sent now
 abbrev pub start_length : End → Past → ℕ
