@@ -1,6 +1,5 @@
 -- The messages made on an index, one use of it after another.
 use Rattle.std.proofs.Common.{◌≡◌, inl, inr, ℕ, ◌+◌, List, [], ◌∷◌, Bool, true, false, cond, eqb, refl, sym, ap, ◌∙◌, subst, Option, Some, None}
-use Rattle.std.specs.List.{filter_map}
 use Rattle.std.proofs.lemmas.Bool.{cases_Bool, false≢true, cases_eq, and_parts, and_from, and_right, eq-eqb, ne_eqb, eqb-true}
 use Rattle.protocol_model.specs.Payload.{Message, Opens, Closes, Updates, Calls, Gone, parts_of}
 use Rattle.protocol_model.specs.Value.{Segment, Class, Pair}

@@ -38,7 +38,7 @@ use Rattle.connection_model.specs.CallAnswers.{call_channel}
 use Rattle.connection_model.specs.Pack.{after_sending, part_item}
 use Rattle.connection_laws.specs.Run.{MaySend, owed_in, Ascends, Acknowledges}
 use Rattle.connection_laws.specs.Fates.{MovesSent, CarriesMade}
-use Rattle.connection_laws.proofs.Searches.{among_here, newest_hit, newest_miss}
+use Rattle.connection_laws.proofs.Searches.{newest_hit, newest_miss}
 use Rattle.connection_laws.proofs.Moves.{making_keeps}
 use Rattle.connection_laws.proofs.Counts.{made_count_grows, made_count_made}
 use Rattle.connection_laws.proofs.Arrivals.{arrival_made, arrival_sent}

@@ -1,21 +1,21 @@
 -- A tick goes on with a run, in each of its steps.
 use Rattle.connection_laws.proofs.Items.{waiting_loose}
 use Rattle.connection_laws.proofs.Deeds.{deeds_fit}
-use Rattle.std.proofs.Common.{◌≡◌, inl, inr, ℕ, zero, suc, ◌+◌, ◌*◌, ◌/◌, ◌<◌, ◌≤◌, max, List, [], ◌∷◌, ◌++◌, map, reverse, Bool, true, false, cond, nat_lt, nat_le, ◌==◌, ◌&&◌, ◌||◌, length, refl, sym, ap, ◌∙◌, subst, arith, Option, Some, None, append_assoc, append-nil, fold, if◌then◌else◌}
+use Rattle.std.proofs.Common.{◌≡◌, inl, inr, ℕ, ◌+◌, ◌/◌, ◌<◌, ◌≤◌, max, List, [], ◌∷◌, ◌++◌, map, reverse, Bool, true, false, cond, nat_lt, nat_le, ◌==◌, ◌&&◌, ◌||◌, length, refl, sym, ap, ◌∙◌, subst, arith, Option, Some, None, append_assoc, append-nil, fold, if◌then◌else◌}
 use Rattle.std.specs.List.{filter_map, flat_map, AllByRecursion, list_all}
 use Rattle.std.proofs.lemmas.Bool.{cases_Bool, false≢true, cond_both, and_parts, ltb-true, leb-false, eqb-true, le-leb}
 use Rattle.std.proofs.lemmas.List.{reverse-append, length-append, length-reverse}
 use Rattle.std.proofs.lemmas.List.Concat.{flat_map-append}
 use Rattle.std.proofs.lemmas.List.Elements.{filter_map-append}
 use Rattle.std.proofs.lemmas.List.Sums.{fold-append}
-use Rattle.protocol_model.specs.Bits.{digits, packed_in, packed_bits}
+use Rattle.protocol_model.specs.Bits.{packed_bits}
 use Rattle.protocol_model.specs.Payload.{Message, Closes, Gone, message_bits, parts_of}
 use Rattle.protocol_model.specs.Sight.{Seen}
 use Rattle.protocol_model.specs.Search.{greatest_of, is_among}
 use Rattle.connection_model.specs.Feed.{End, Past, Ticked, Ended, ByStall, Item, Owed, has_ended, deeds_since_tick, tick_count, sight_of, seen_in}
 use Rattle.connection_model.specs.Fates.{taken_of, unresolved_count, owed_of}
 use Rattle.connection_model.specs.Bunches.{room, after_making}
-use Rattle.connection_model.specs.State.{ActorState, Closed, Asleep, Opening, Opened, Closing, state_of, is_open, is_opened, is_asleep, index_of, opened_actors}
+use Rattle.connection_model.specs.State.{state_of, is_open, is_opened, is_asleep, index_of, opened_actors}
 use Rattle.connection_model.specs.Carry.{updatable_pairs, is_carried}
 use Rattle.connection_model.specs.Settled.{is_settled_as, is_clear}
 use Rattle.connection_model.specs.CallAnswers.{waits_in, waiting_of}

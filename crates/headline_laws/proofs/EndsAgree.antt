@@ -39,7 +39,7 @@ use Rattle.connection_laws.proofs.Ticking.{tick_runs}
 use Rattle.payload_laws.specs.Accepted.{AreAccepted}
 use Rattle.headline_laws.specs.Fair.{is_fair_verdict}
 use Rattle.headline_laws.specs.Fits.{EventFits, PastFits}
-use Rattle.headline_laws.specs.Sights.{sight_in, sights_of, Seeing, shown_by, SeesNothing}
+use Rattle.headline_laws.specs.Sights.{sight_in, sights_of, Seeing}
 use Rattle.protocol_model.specs.Payload.{Message}
 use Rattle.headline_laws.proofs.ClientHears.{Follower, HeardOne, hears_one, loose_said, loosely}
 use Rattle.headline_laws.proofs.Following.{More, more_by, hands_more, hands_alike, follows_more, more_done, follows_alike, alike_done, follows_start, start_done}
@@ -49,7 +49,7 @@ use Rattle.headline_laws.proofs.MarksInOrder.{marks_come}
 use Rattle.headline_laws.proofs.NextPasses.{ServerFacts}
 use Rattle.headline_laws.proofs.ServerSays.{server_says}
 use Rattle.headline_laws.proofs.ServerHears.{ClientSays, says_later, says_move, Served, ServedOne, serves_one}
-use Rattle.headline_laws.proofs.Sights.{seeing_rest, feed_sees}
+use Rattle.headline_laws.proofs.Sights.{SeesNothing, shown_by, seeing_rest, feed_sees}
 use Rattle.headline_laws.proofs.PacketsSpelled.{end_fits}
 use Rattle.headline_laws.proofs.WholeMessages.{messages_short}
 

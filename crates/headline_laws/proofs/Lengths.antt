@@ -19,7 +19,6 @@ use Rattle.payload_laws.proofs.Lengths.{packed_length}
 use Rattle.payload_laws.proofs.Bounds.{packed_most}
 use Rattle.payload_laws.proofs.HeaderRules.{made_is_bunch, loose_is_bunch}
 use Rattle.payload_laws.proofs.Pieces.{piece_most}
-use Rattle.connection_laws.proofs.Moves.{making_keeps}
 use Rattle.connection_laws.proofs.AcksInOrder.{taken_made}
 use Rattle.connection_laws.proofs.Arrivals.{moved_made}
 use Rattle.connection_laws.proofs.Searches.{least_high}

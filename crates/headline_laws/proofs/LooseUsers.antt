@@ -9,7 +9,7 @@ use Rattle.protocol_model.specs.Side.{AtServer}
 use Rattle.connection_model.specs.Feed.{End, Past, Ticked, Made, Waits, Sent, Took, Ended, Item, Delivered, Entry}
 use Rattle.connection_model.specs.Fates.{top_of, taken_of}
 use Rattle.connection_model.specs.Bunches.{made_count, is_opening}
-use Rattle.connection_model.specs.State.{Mark, is_mark, mark_in, state_of, state_at, is_open, is_opened, ActorState, Closed, Asleep, Opening, Opened, Closing, index_of, last_mark}
+use Rattle.connection_model.specs.State.{Mark, is_mark, mark_in, state_of, state_at, is_opened, index_of, last_mark}
 use Rattle.connection_model.specs.Windows.{received_on, next_of, wholes_from}
 use Rattle.connection_laws.specs.Run.{IsRun}
 use Rattle.connection_laws.specs.Link.{IsLink}

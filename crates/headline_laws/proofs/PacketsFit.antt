@@ -2,7 +2,6 @@
 use Rattle.std.proofs.Common.{◌≡◌, ℕ, zero, suc, ◌+◌, ◌<◌, ◌≤◌, List, [], ◌∷◌, ◌++◌, map, fold, Bool, true, false, cond, not, ◌&&◌, ◌||◌, nat_lt, nat_le, length, length-append, reverse, refl, sym, ap, ◌∙◌, subst, arith, Option, Some, None, append-nil}
 use Rattle.std.specs.List.{flat_map, filter, range_with_len, AllByRecursion}
 use Rattle.std.proofs.lemmas.Bool.{false≢true, cond_both, leb-true}
-use Rattle.std.proofs.lemmas.List.{reverse-append}
 use Rattle.protocol_model.specs.declared.Version.{Version}
 use Rattle.protocol_model.specs.declared.Version.TheVariants.{One, Two}
 use Rattle.protocol_model.specs.Packet.{rec_bits, start_bits, channel_limit}

@@ -1,7 +1,6 @@
 -- Every packet that an end sends can be spelled, and so is read back.
 use Rattle.std.proofs.Common.{◌≡◌, ℕ, zero, suc, ◌+◌, ◌-◌, ◌*◌, ◌^◌, ◌%◌, ◌<◌, ◌≤◌, ◌==◌, List, [], ◌∷◌, ◌++◌, map, replicate, Bool, true, false, cond, ◌&&◌, nat_lt, nat_le, length, length-append, refl, sym, ap, ◌∙◌, subst, arith, Option, Some, None, Ok}
 use Rattle.std.specs.List.{flat_map, list_all, range_with_len, AllByRecursion}
-use Rattle.std.proofs.lemmas.Bool.Decides.{nat_tests}
 use Rattle.std.proofs.lemmas.List.{length-replicate}
 use Rattle.std.proofs.lemmas.Nat.{mod_below}
 use Rattle.protocol_model.specs.declared.Version.{Version}
@@ -31,7 +30,7 @@ use Rattle.payload_laws.proofs.ClientLimits.{client_limits}
 use Rattle.protocol_laws.proofs.BytesLaws.{bits_of-bytes_of}
 use Rattle.protocol_laws.proofs.Lengths.{length-bits_of}
 use Rattle.protocol_laws.proofs.Reading.{number_of_below}
-use Rattle.packet_codec.proofs.BunchSpelled.{both, is_lower}
+use Rattle.packet_codec.proofs.BunchSpelled.{both}
 use Rattle.packet_codec.proofs.PacketLaws.{packet_back}
 use Rattle.connection_laws.specs.Talk.{packet_at}
 use Rattle.connection_laws.proofs.Searches.{least_low, least_high}
@@ -40,7 +39,7 @@ use Rattle.headline_laws.specs.Fits.{ItemFits, PacketFits, EventFits, PastFits, 
 use Rattle.headline_laws.proofs.Lengths.{start_same, count_of}
 use Rattle.headline_laws.proofs.Ticks.{CallsKnow, tick_fits, event_call_fits}
 use Rattle.headline_laws.proofs.Datagrams.{got_fits}
-use Rattle.std.proofs.lemmas.Bool.{le-leb}
+use Rattle.std.proofs.lemmas.Bool.{lt-ltb, le-leb}
 
 -- ---- the head
 
@@ -53,7 +52,7 @@ words_low : (past : Past) (count from : ℕ) → list_all (λ word. nat_lt word 
 words_low past zero from = refl
 words_low past (suc count) from =
     both (nat_lt (history_word past (top_of past - 32 * from)) (2 ^ 32)) (list_all (λ word. nat_lt word (2 ^ 32)) (map (λ w. history_word past (top_of past - 32 * w)) (range_with_len (from + 1) count)))
-    (is_lower (history_word past (top_of past - 32 * from)) (2 ^ 32) (word_low past (top_of past - 32 * from))) (words_low past count (from + 1))
+    (lt-ltb (history_word past (top_of past - 32 * from)) (2 ^ 32) (word_low past (top_of past - 32 * from))) (words_low past count (from + 1))
 
 head_fits : (v : Version) (past : Past) → is_head v (head_of v past) ≡ true
 head_fits One past = refl
@@ -62,7 +61,7 @@ head_fits Two past =
     let low : 1 ≤ word_count past = least_low (λ w. nat_le (top_of past - top_when past (high_of past)) (32 * w)) 7 1 in
     let high : word_count past ≤ 1 + 7 = least_high (λ w. nat_le (top_of past - top_when past (high_of past)) (32 * w)) 7 1 in
     let count : length (head_of Two past).words ≡ word_count past = count_of (λ w. history_word past (top_of past - 32 * w)) (word_count past) 0 in
-    let a : nat_lt (top_of past % 16384) 16384 ≡ true = is_lower (top_of past % 16384) 16384 (mod_below (top_of past) 16384 (omega arith)) in
+    let a : nat_lt (top_of past % 16384) 16384 ≡ true = lt-ltb (top_of past % 16384) 16384 (mod_below (top_of past) 16384 (omega arith)) in
     let b : nat_le 1 (length (head_of Two past).words) ≡ true = le-leb 1 (length (head_of Two past).words) (omega (arith, low, count)) in
     let c : nat_le (length (head_of Two past).words) 8 ≡ true = le-leb (length (head_of Two past).words) 8 (omega (arith, high, count)) in
     both (nat_lt (top_of past % 16384) 16384 && nat_le 1 (length (head_of Two past).words) && nat_le (length (head_of Two past).words) 8)
@@ -102,7 +101,7 @@ packet_spells end past number items f =
     let start : List Bool = start_bits v (number % 16384) (head_of v past) in
     let recs : List Bool = flat_map (λ rec. rec_bits v rec) (map rec_of items) in
     record {
-      number = is_lower (number % 16384) 16384 (mod_below number 16384 (omega arith));
+      number = lt-ltb (number % 16384) 16384 (mod_below number 16384 (omega arith));
       head = head_fits v past;
       recs = recs_fit v items f.0;
       spelling = refl;

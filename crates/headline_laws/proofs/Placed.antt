@@ -1,8 +1,8 @@
 -- What a server makes and sends is in its place at the client.
-use Rattle.std.proofs.Common.{◌≡◌, ℕ, ◌≤◌, ◌==◌, ◌&&◌, [], ◌∷◌, Bool, true, false, cond, subst, arith, Option, Some, None}
+use Rattle.std.proofs.Common.{◌≡◌, ℕ, ◌==◌, ◌&&◌, [], ◌∷◌, Bool, true, false, cond, subst, Option, Some, None}
 use Rattle.std.specs.List.{filter_map, cons_option, slice_get}
 use Rattle.std.specs.Bool.{then_some}
-use Rattle.std.proofs.lemmas.Bool.{eq-eqb, ne_eqb}
+use Rattle.std.proofs.lemmas.Bool.{eq-eqb}
 use Rattle.protocol_model.specs.Packet.{Bunch}
 use Rattle.protocol_model.specs.Payload.{Message, Opens, Closes, Updates, Calls, Gone}
 use Rattle.protocol_model.specs.Search.{newest_of}

@@ -18,7 +18,7 @@ use Rattle.connection_model.specs.Bunches.{made_bunch, is_opening, is_sleeping}
 use Rattle.connection_model.specs.CallAnswers.{call_of, call_channel, fitting_call, waits_in}
 use Rattle.connection_model.specs.Copies.{copy_class, copy_channel}
 use Rattle.connection_model.specs.Items.{loose_bunch, made_as}
-use Rattle.connection_model.specs.State.{Mark, ActorState, is_mark, is_open, is_opened, is_asleep, state_of, state_at, last_mark, was_opened, Asleep, Closed, Closing, Opened, Opening}
+use Rattle.connection_model.specs.State.{Mark, is_mark, is_asleep, state_of, state_at, last_mark, was_opened}
 use Rattle.connection_model.specs.Verdict.{is_misplaced, lacks_copy, delivery_of, bunches_result, bunch_heard, entry_result, ack_cause}
 use Rattle.connection_model.specs.Windows.{Received, received_on, applied_of, kept_of, wholes_from, wholes_of}
 use Rattle.connection_laws.specs.Run.{Move, Ticks, Makes, Defers, Sends, Takes, Hears, Hands, Ends, after_move, May, MayMake, MaySend, HasLoosePlace, IsRun}
@@ -42,7 +42,7 @@ use Rattle.payload_laws.proofs.OthersPassing.{call_passes}
 use Rattle.headline_laws.specs.Agree.{user_at}
 use Rattle.headline_laws.specs.Fits.{PastFits}
 use Rattle.headline_laws.specs.Follows.{HandsOnAll, HandsOnWhole, Follows}
-use Rattle.headline_laws.specs.Sights.{sights_of, SeesNothing}
+use Rattle.headline_laws.specs.Sights.{sights_of}
 use Rattle.headline_laws.specs.Tells.{SaysCall}
 use Rattle.headline_laws.specs.Whole.{MadeAt}
 use Rattle.headline_laws.proofs.BunchHandsOn.{Steps, CarriedHeard}
@@ -63,6 +63,7 @@ use Rattle.protocol_model.specs.Search.{newest_of}
 use Rattle.std.specs.Bool.{then_some}
 use Rattle.connection_laws.proofs.ActorMarks.{opened_is_open}
 use Rattle.connection_laws.proofs.StoriesTalk.{all_from}
+use Rattle.headline_laws.proofs.Sights.{SeesNothing}
 
 -- ---- what a client says
 

@@ -30,11 +30,23 @@ use Rattle.payload_laws.specs.Accepted.{AreAccepted, StandsIn}
 use Rattle.payload_laws.specs.Limits.{AreValues}
 use Rattle.payload_laws.proofs.WorldValues.{same_some}
 use Rattle.payload_laws.proofs.SightSpelling.{spawns_few, sight_spells, from, numbered}
-use Rattle.headline_laws.specs.Sights.{sight_in, sights_of, Seeing, shown_by, SeesNothing}
+use Rattle.headline_laws.specs.Sights.{sight_in, sights_of, Seeing}
 use Rattle.headline_laws.specs.Tells.{IsKnownActor}
 use Rattle.headline_laws.proofs.ActorsStay.{class_stays}
 use Rattle.connection_model.specs.Pack.{after_tick}
 use Rattle.connection_model.specs.CallAnswers.{after_call}
+
+-- the sights of a feed's ticks, the newest first
+abbrev pub shown_by : List Event → List (List Seen)
+shown_by [] = []
+shown_by (Tick s ∷ feed) = s ∷ shown_by feed
+shown_by (Got bytes ∷ feed) = shown_by feed
+shown_by (Call actor number args ∷ feed) = shown_by feed
+
+-- nothing was ever seen
+abbrev pub SeesNothing : List (List Seen) → Type 0
+SeesNothing [] = Unit {0}
+SeesNothing (s ∷ sights) = (s ≡ []) × SeesNothing sights
 
 -- ---- the sights of a past are those of its feed
 

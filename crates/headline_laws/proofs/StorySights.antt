@@ -14,8 +14,8 @@ use Rattle.replication_model.specs.Headline.{HasJoined}
 use Rattle.replication_model.specs.Story.{Player, Story, first_story, past_at, out_at, with_event, other_side, Reported, earlier_of, after_tick_of, after_datagram, after_forgery, after_delivery, also_delivery, told_before, with_told, is_kept, after_new_deliveries, after_call_of, settled_answer, copies_reports, new_player, after_line, also_line, story_of}
 use Rattle.connection_laws.proofs.Items.{all_weaker}
 use Rattle.connection_laws.proofs.PacketsSay.{IsIn, in_middle, all_at}
-use Rattle.headline_laws.specs.Sights.{Seeing, shown_by, SeesNothing}
-use Rattle.headline_laws.proofs.Sights.{seeing_later}
+use Rattle.headline_laws.specs.Sights.{Seeing}
+use Rattle.headline_laws.proofs.Sights.{SeesNothing, shown_by, seeing_later}
 
 -- the server saw this world, the client nothing
 pub record ShownTo (table : Table) (edits : Edits) (p : Player) : Type 0 where

@@ -3,7 +3,7 @@ use Rattle.std.proofs.Common.{◌≡◌, inl, inr, ℕ, ◌+◌, ◌<◌, ◌≤
 use Rattle.std.specs.List.{filter_map, AllByRecursion}
 use Rattle.std.specs.Bool.{then_some}
 use Rattle.std.specs.Prelude.{option_and_then}
-use Rattle.std.proofs.lemmas.Bool.{cases_Bool, cond_both, and_parts}
+use Rattle.std.proofs.lemmas.Bool.{lt-ltb, cases_Bool, cond_both, and_parts}
 use Rattle.protocol_model.specs.declared.Version.{Version}
 use Rattle.protocol_model.specs.declared.Version.TheVariants.{One, Two}
 use Rattle.protocol_model.specs.Packet.{channel_limit}
@@ -32,7 +32,6 @@ use Rattle.connection_laws.proofs.Ticking.{IsTicking, closes_tick, first_packs, 
 use Rattle.payload_laws.specs.Limits.{HasLimits}
 use Rattle.table_model.specs.Rules.{args_limit}
 use Rattle.std.proofs.lemmas.Nat.{mod_below}
-use Rattle.packet_codec.proofs.BunchSpelled.{is_lower}
 use Rattle.packet_codec.proofs.Lengths.{power_width}
 use Rattle.payload_laws.proofs.Bounds.{call_most}
 use Rattle.headline_laws.specs.Fits.{SeenFits, ItemFits, start_length, PastFits}
@@ -45,7 +44,7 @@ length_of m = length (message_bits m)
 -- ---- the first items
 
 mod_low : (n : ℕ) → nat_lt (n % 16384) 16384 ≡ true
-mod_low n = is_lower (n % 16384) 16384 (mod_below n 16384 (omega arith))
+mod_low n = lt-ltb (n % 16384) 16384 (mod_below n 16384 (omega arith))
 
 owed_one : (n : ℕ) → ItemFits One (Owed n)
 owed_one n = (mod_low n, omega (arith, power_width 14 (n % 16384) (omega arith)))

@@ -33,7 +33,7 @@ pub record SaysCall (entries : List Entry) (classes : ℕ → Class) (side : Sid
   pub known : IsKnownActor entries classes actor
   pub fits : fitting_call side number args (classes actor) ≡ Some call
 
--- what a message says is so of the actor that it is of
+-- what a message says is so of its actor: values of its class, a call of its class, or no more than the guid
 abbrev pub MessageTells : List Entry → (classes : ℕ → Class) → Side → Message → Type 0
 MessageTells entries classes side (Opens exports actor class values) =
     SaysValues entries classes actor class values
