@@ -98,13 +98,15 @@ Listed past ch c m zero before = on_index ch before ≡ on_index ch past
 Listed past ch c m (suc i) before =
     on_index ch before ≡ cond (c == ch) ((made_count past c + 1, m) ∷ on_index ch past) (on_index ch past)
 
-listed_first : (b : Bool) (x : Numbered) (ms ns : List Numbered) → ms ≡ ns → cons_option (then_some (b && true) x) ms ≡ cond b (x ∷ ns) ns
-listed_first true x ms ns e = ap (λ (l : List Numbered). x ∷ l) e
-listed_first false x ms ns e = e
+-- a message counts in a list by its first part, where it counts at all
+pub listed_first : {A : Type 0} (b : Bool) (x : A) (xs ys : List A) → xs ≡ ys → cons_option (then_some (b && true) x) xs ≡ cond b (x ∷ ys) ys
+listed_first {A} true x xs ys e = ap (λ (l : List A). x ∷ l) e
+listed_first {A} false x xs ys e = e
 
-listed_later : (b : Bool) (x : Numbered) (ms : List Numbered) → cons_option (then_some (b && false) x) ms ≡ ms
-listed_later true x ms = refl
-listed_later false x ms = refl
+-- and its other parts don't count
+pub listed_later : {A : Type 0} (b : Bool) (x : A) (xs : List A) → cons_option (then_some (b && false) x) xs ≡ xs
+listed_later true x xs = refl
+listed_later false x xs = refl
 
 listed_step : (past : Past) (ch c : ℕ) (m : Message) (i : ℕ) (before : Past) → Listed past ch c m i before → Listed past ch c m (suc i) (Made c (made_count past c + 1 + i) m i ∷ before)
 listed_step past ch c m zero before h =

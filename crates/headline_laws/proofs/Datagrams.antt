@@ -23,8 +23,8 @@ use Rattle.connection_model.specs.PayloadReading.{payload_at}
 use Rattle.connection_model.specs.Verdict.{is_misplaced, lacks_copy, delivery_of, payload_cause, payload_result, bunch_result, with_told, with_handed, Progress, bunches_result, reliable_result, bunch_heard, entry_result, after_entries, entry_of, entries_in, after_packet, after_reading, after_got}
 use Rattle.connection_laws.proofs.Items.{all_append, all_reverse}
 use Rattle.connection_laws.proofs.Moves.{told_keeps, handed_keeps}
-use Rattle.packet_codec.proofs.PacketSpelled.{content_spelled}
-use Rattle.packet_codec.proofs.ReadBack.{rules_of}
+use Rattle.protocol_laws.proofs.PacketSpelled.{content_spelled}
+use Rattle.protocol_laws.proofs.BunchBack.{rules_of}
 use Rattle.headline_laws.specs.Fits.{EntryFits, PlaceFits, PastFits}
 
 -- the bunch's channel can be spelled

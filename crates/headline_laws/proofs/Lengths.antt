@@ -13,8 +13,8 @@ use Rattle.connection_model.specs.Fates.{head_of, word_count, top_when, top_of, 
 use Rattle.connection_model.specs.Bunches.{made_bunch, after_making}
 use Rattle.connection_model.specs.Items.{loose_bunch, loose_item}
 use Rattle.connection_model.specs.Pack.{after_sending}
-use Rattle.packet_codec.specs.Parts.{control_bits, numbered_bits, words_bits}
-use Rattle.packet_codec.proofs.Lengths.{power_width, channel_13, channel_14, control_length, numbered_length, words_length, bunch_length}
+use Rattle.protocol_laws.specs.Parts.{control_bits, numbered_bits, words_bits}
+use Rattle.protocol_laws.proofs.FieldLengths.{power_width, channel_13, channel_14, control_length, numbered_length, words_length, bunch_length}
 use Rattle.payload_laws.proofs.Lengths.{packed_length}
 use Rattle.payload_laws.proofs.Bounds.{packed_most}
 use Rattle.payload_laws.proofs.HeaderRules.{made_is_bunch, loose_is_bunch}

@@ -30,8 +30,8 @@ use Rattle.payload_laws.proofs.ClientLimits.{client_limits}
 use Rattle.protocol_laws.proofs.BytesLaws.{bits_of-bytes_of}
 use Rattle.protocol_laws.proofs.Lengths.{length-bits_of}
 use Rattle.protocol_laws.proofs.Reading.{number_of_below}
-use Rattle.packet_codec.proofs.BunchSpelled.{both}
-use Rattle.packet_codec.proofs.PacketLaws.{packet_back}
+use Rattle.protocol_laws.proofs.Booleans.{both}
+use Rattle.protocol_laws.proofs.PacketLaws.{packet_back}
 use Rattle.connection_laws.specs.Talk.{packet_at}
 use Rattle.connection_laws.proofs.Searches.{least_low, least_high}
 use Rattle.connection_laws.proofs.Feeds.{feed_done}

@@ -22,6 +22,7 @@ use Rattle.payload_laws.proofs.Bounds.{close_parts}
 use Rattle.headline_laws.specs.Whole.{MadeAt, IsReceived, ArrivesWhole}
 use Rattle.headline_laws.specs.Marks.{marks_of, without_newest, CloseArrived, ClosesArrived, ClosesReceived}
 use Rattle.headline_laws.proofs.ReceivedFirst.{arrived_each, whole_there}
+use Rattle.connection_laws.proofs.Prefixes.{listed_later, listed_first}
 
 -- ---- the marks after a message
 
@@ -37,22 +38,14 @@ abbrev Listed : Past → (a c : ℕ) → Message → ℕ → Past → Type 0
 Listed past a c m zero before = marks_of before a ≡ marks_of past a
 Listed past a c m (suc i) before = marks_of before a ≡ cond (marks_it a m) (new_mark past c m ∷ marks_of past a) (marks_of past a)
 
-first_listed : (b : Bool) (x : Mark) (ks ls : List Mark) → ks ≡ ls → cons_option (then_some (b && true) x) ks ≡ cond b (x ∷ ls) ls
-first_listed true x ks ls e = ap (λ (l : List Mark). x ∷ l) e
-first_listed false x ks ls e = e
-
-later_listed : (b : Bool) (x : Mark) (ks : List Mark) → cons_option (then_some (b && false) x) ks ≡ ks
-later_listed true x ks = refl
-later_listed false x ks = refl
-
 listed_step : (past : Past) (a c : ℕ) (m : Message) (i : ℕ) (before : Past) → Listed past a c m i before → Listed past a c m (suc i) (Made c (made_count past c + 1 + i) m i ∷ before)
 listed_step past a c m zero before h =
     let n : made_count past c + 1 + 0 ≡ made_count past c + 1 = omega arith in
     ap (λ (k : ℕ). cons_option (then_some (marks_it a m && true) (let x : Mark = record { channel = c; number = k; message = m } in x)) (marks_of before a)) n
-    ∙ first_listed (marks_it a m) (new_mark past c m) (marks_of before a) (marks_of past a) h
+    ∙ listed_first (marks_it a m) (new_mark past c m) (marks_of before a) (marks_of past a) h
 listed_step past a c m (suc i) before h =
     ap (λ (t : Bool). cons_option (then_some (marks_it a m && t) (let x : Mark = record { channel = c; number = made_count past c + 1 + suc i; message = m } in x)) (marks_of before a)) (ne_eqb (suc i) 0 (λ q. absurd (omega (arith, q))))
-    ∙ later_listed (marks_it a m) (record { channel = c; number = made_count past c + 1 + suc i; message = m }) (marks_of before a) ∙ h
+    ∙ listed_later (marks_it a m) (record { channel = c; number = made_count past c + 1 + suc i; message = m }) (marks_of before a) ∙ h
 
 listed_end : (past : Past) (a c : ℕ) (m : Message) (i : ℕ) (before : Past) → 1 ≤ i → Listed past a c m i before → marks_of before a ≡ cond (marks_it a m) (new_mark past c m ∷ marks_of past a) (marks_of past a)
 listed_end past a c m zero before lo h = absurd (omega (arith, lo))

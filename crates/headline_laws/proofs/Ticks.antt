@@ -32,7 +32,7 @@ use Rattle.connection_laws.proofs.Ticking.{IsTicking, closes_tick, first_packs, 
 use Rattle.payload_laws.specs.Limits.{HasLimits}
 use Rattle.table_model.specs.Rules.{args_limit}
 use Rattle.std.proofs.lemmas.Nat.{mod_below}
-use Rattle.packet_codec.proofs.Lengths.{power_width}
+use Rattle.protocol_laws.proofs.FieldLengths.{power_width}
 use Rattle.payload_laws.proofs.Bounds.{call_most}
 use Rattle.headline_laws.specs.Fits.{SeenFits, ItemFits, start_length, PastFits}
 use Rattle.headline_laws.proofs.ChannelsFit.{due_fits, waiting_short, calls_fit, call_fits, free_below}
