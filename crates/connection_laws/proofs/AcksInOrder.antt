@@ -37,16 +37,19 @@ taken_told entry past = told_ignored taken_in (λ n e es ds. refl) entry past
 pub taken_handed : (d : Delivered) (past : Past) → taken_of (with_handed d past) ≡ taken_of past
 taken_handed d past = handed_ignored taken_in (λ n es d ds. refl) d past
 
+-- nor does hearing an entry since the tick
 since_told : (entry : Entry) (past : Past) → taken_of (deeds_since_tick (with_told entry past)) ≡ taken_of (deeds_since_tick past)
 since_told entry (Took n es ds ∷ past) = refl
 since_told entry past = refl
 
+-- nor does handing a payload on
 since_handed : (d : Delivered) (past : Past) → taken_of (deeds_since_tick (with_handed d past)) ≡ taken_of (deeds_since_tick past)
 since_handed d (Took n es ds ∷ past) = refl
 since_handed d past = refl
 
 -- ---- the law
 
+-- what items acknowledge was taken
 owed_taken : (end : End) (past : Past) (items : List Item) → AllByRecursion (MaySend end past) items → (x : ℕ) → is_among x (owed_by items) ≡ true → is_among x (taken_of past) ≡ true
 owed_taken end past [] all x h = absurd (false≢true h)
 owed_taken end past (Owed n ∷ items) all x h = elim (among_cons n (owed_by items) x h) [
@@ -56,6 +59,7 @@ owed_taken end past (Owed n ∷ items) all x h = elim (among_cons n (owed_by ite
 owed_taken end past (Carries c k b ∷ items) all x h = owed_taken end past items all.1 x h
 owed_taken end past (Loose m b ∷ items) all x h = owed_taken end past items all.1 x h
 
+-- it stays so where the same was taken and acknowledged
 tells_like : (past later : Past) → acknowledged_of later ≡ acknowledged_of past → taken_of later ≡ taken_of past
     → taken_of (deeds_since_tick later) ≡ taken_of (deeds_since_tick past) → AcknowledgesTaken past → AcknowledgesTaken later
 tells_like past later t k s h = record {
@@ -63,6 +67,7 @@ tells_like past later t k s h = record {
   order = λ x y e f. h.order x y (ap (is_among x) (sym t) ∙ e) (ap (is_among y) (sym s) ∙ f);
 }
 
+-- it stays so move by move
 tells_taken_step : (end : End) (past : Past) (move : Move) → IsRun end past → has_ended past ≡ false → May end past move → AcknowledgesTaken past → AcknowledgesTaken (after_move past move)
 tells_taken_step end past (Ticks sight) run alive may h = record { taken = h.taken; order = λ x y e f. absurd (false≢true f) }
 tells_taken_step end past (Makes ch m) run alive may h =

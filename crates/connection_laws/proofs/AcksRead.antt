@@ -80,6 +80,7 @@ fresh_takes Two me other n lt hi f = record {
 
 -- ---- the end that tells goes on
 
+-- the same is left where the packets taken say the same
 left_same : (v : Version) (me other after : Past) → ((k : ℕ) → is_among k (taken_of me) ≡ true → said_by v after k ≡ said_by v other k) → left_of v me after ≡ left_of v me other
 left_same v (Took k es ds ∷ past) other after h = ap (λ (s : List Said). filter_map ack_in (drop (length es) s)) (h k (among_here k (taken_of past) k refl))
 left_same v [] other after h = refl
@@ -89,6 +90,7 @@ left_same v (Waits m ∷ past) other after h = refl
 left_same v (Sent n t items ∷ past) other after h = refl
 left_same v (Ended g ∷ past) other after h = refl
 
+-- a head still waits there
 waits_same : (me other after : Past) → ((k : ℕ) → is_among k (taken_of me) ≡ true → top_when after k ≡ top_when other k) → HeadWaits me other → HeadWaits me after
 waits_same (Took k [] ds ∷ past) other after h w = (let e : top_when after k ≡ top_when other k = h k (among_here k (taken_of past) k refl) in omega (arith, w))
 waits_same (Took k (e ∷ es) ds ∷ past) other after h w = tt
@@ -163,7 +165,7 @@ abbrev pub NamesSent : Past → Entry → Type 0
 NamesSent past entry = (z : ℤ) → IsIn z (named_by entry (high_of past)) → (x : ℕ) → z ≡ pos x → x ≤ last_sent past
 
 -- after an entry: each packet that is known to have arrived was known before, or was heard to its end
-pub record Told1 (v : Version) (me after other : Past) : Type 0 where
+pub record StaysFresh (v : Version) (me after other : Past) : Type 0 where
   pub moved : (x : ℕ) → is_among x (moved_of after) ≡ true → (is_among x (moved_of me) ≡ true) ⊎ (is_among x (done_of other) ≡ true)
   pub fresh : Fresh v after other
 
@@ -202,6 +204,7 @@ abbrev rest_of : List Said → List Said
 rest_of [] = []
 rest_of (s ∷ said) = said
 
+-- a head comes first, if there is one
 head_first : (past : Past) (k : ℕ) (head : Head) → IsIn (SaysHead head) (rest_of (said_by Two past k)) → ⊥
 head_first [] k head h = h
 head_first (Ticked t s ∷ past) k head h = head_first past k head h
@@ -215,6 +218,7 @@ head_first (Sent number t items ∷ past) k head h = by (number == k) h (λ q. h
     by true h ih = items_no_head head items h
     by false h ih = ih h
 
+-- so nothing comes before it
 none_before : (past : Past) (k : ℕ) (head : Head) (before rest : List Said) → said_by Two past k ≡ before ++ SaysHead head ∷ rest → before ≡ []
 none_before past k head [] rest e = refl
 none_before past k head (s ∷ before) rest e = absurd (head_first past k head (subst (IsIn (SaysHead head)) (sym (ap rest_of e)) (in_middle (SaysHead head) before rest)))
@@ -240,7 +244,7 @@ module _ (end : End) (one : end.version ≡ One) (other : Past) (fit : DeedsFit 
     (f : FreshOne (Took k es ds ∷ past) other) where
   -- a bunch tells nothing
   pub heard_one : (b : Bunch) (s : Said) (before rest : List Said) → ack_in s ≡ None → said_by One other k ≡ before ++ s ∷ rest → length es ≡ length before
-      → Told1 One (Took k es ds ∷ past) (Took k (Heard b ∷ es) ds ∷ past) other
+      → StaysFresh One (Took k es ds ∷ past) (Took k (Heard b ∷ es) ds ∷ past) other
   heard_one b s before rest none e l =
       let left = left_next (said_by One other k) before s rest (length es) e l in
       record {
@@ -253,7 +257,7 @@ module _ (end : End) (one : end.version ≡ One) (other : Past) (fit : DeedsFit 
       }
 
   pub acked_one : (n : ℕ) (before rest : List Said) → said_by One other k ≡ before ++ SaysItem (Owed n) ∷ rest → length es ≡ length before
-      → Told1 One (Took k es ds ∷ past) (Took k (Acked (n % 16384) ∷ es) ds ∷ past) other
+      → StaysFresh One (Took k es ds ∷ past) (Took k (Acked (n % 16384) ∷ es) ds ∷ past) other
   acked_one n before rest e l =
       let me : Past = Took k es ds ∷ past in
       let left = left_next (said_by One other k) before (SaysItem (Owed n)) rest (length es) e l in
@@ -314,7 +318,7 @@ module _ (end : End) (one : end.version ≡ One) (other : Past) (fit : DeedsFit 
   next_names_one (SaysItem (Loose m b)) before rest e l = no_names b
 
   pub next_one : (s : Said) (before rest : List Said) → said_by One other k ≡ before ++ s ∷ rest → length es ≡ length before
-      → Told1 One (Took k es ds ∷ past) (Took k (entry_said s ∷ es) ds ∷ past) other
+      → StaysFresh One (Took k es ds ∷ past) (Took k (entry_said s ∷ es) ds ∷ past) other
   next_one (SaysHead head) before rest e l = absurd (no_heads other k head (subst (IsIn (SaysHead head)) (sym e) (in_middle (SaysHead head) before rest)))
   next_one (SaysItem (Owed n)) before rest e l = acked_one n before rest e l
   next_one (SaysItem (Carries c n b)) before rest e l = heard_one b (SaysItem (Carries c n b)) before rest refl e l
@@ -325,10 +329,10 @@ module _ (end : End) (one : end.version ≡ One) (other : Past) (fit : DeedsFit 
 module _ (end : End) (two : end.version ≡ Two) (other : Past) (fit : DeedsFit end other) (k : ℕ) (es : List Entry) (ds : List Delivered) (past : Past)
     (sent : (x : ℕ) → is_among x (done_of other) ≡ true → x ≤ last_sent past) (few : last_sent past ≤ high_of (Took k es ds ∷ past) + 4096)
     (took : k ≤ last_sent other) (f : FreshTwo (Took k es ds ∷ past) other) where
-  pub heard_two : (b : Bunch) → Told1 Two (Took k es ds ∷ past) (Took k (Heard b ∷ es) ds ∷ past) other
+  pub heard_two : (b : Bunch) → StaysFresh Two (Took k es ds ∷ past) (Took k (Heard b ∷ es) ds ∷ past) other
   heard_two b = record { moved = λ x h. inl h; fresh = record { later = f.later; now = tt } }
 
-  pub told_two : (head : Head) → es ≡ [] → IsIn (SaysHead head) (said_by Two other k) → Told1 Two (Took k es ds ∷ past) (Took k (Told head ∷ es) ds ∷ past) other
+  pub told_two : (head : Head) → es ≡ [] → IsIn (SaysHead head) (said_by Two other k) → StaysFresh Two (Took k es ds ∷ past) (Took k (Told head ∷ es) ds ∷ past) other
   told_two head first q =
       let me : Past = Took k es ds ∷ past in
       let facts : HeadFacts other k head = head_facts end other fit k head q in
@@ -399,7 +403,7 @@ module _ (end : End) (two : end.version ≡ Two) (other : Past) (fit : DeedsFit 
   next_names_two (SaysItem (Loose m b)) before rest e l = nothing_named b
 
   pub next_two : (s : Said) (before rest : List Said) → said_by Two other k ≡ before ++ s ∷ rest → es ≡ reverse (map entry_said before)
-      → Told1 Two (Took k es ds ∷ past) (Took k (entry_said s ∷ es) ds ∷ past) other
+      → StaysFresh Two (Took k es ds ∷ past) (Took k (entry_said s ∷ es) ds ∷ past) other
   next_two (SaysHead head) before rest e l =
       told_two head (l ∙ ap (λ (b : List Said). reverse (map entry_said b)) (none_before other k head before rest e)) (subst (IsIn (SaysHead head)) (sym e) (in_middle (SaysHead head) before rest))
   next_two (SaysItem (Owed n)) before rest e l =

@@ -36,14 +36,17 @@ done_taken (Made c n m i ∷ past) x h = h
 done_taken (Waits m ∷ past) x h = h
 done_taken (Sent n t items ∷ past) x h = h
 
+-- once a part was made, all that was taken was heard to its end
 abbrev IsDoneBy : Past → ℕ → Past → Type 0
 IsDoneBy past zero before = taken_of before ≡ taken_of past
 IsDoneBy past (suc i) before = (taken_of before ≡ taken_of past) × (done_of before ≡ taken_of past)
 
+-- each part of a message leaves it so
 done_step : (past : Past) (ch n : ℕ) (m : Message) (j i : ℕ) (before : Past) → IsDoneBy past i before → IsDoneBy past (suc i) (Made ch n m j ∷ before)
 done_step past ch n m j zero before h = (h, h)
 done_step past ch n m j (suc i) before h = (h.0, h.0)
 
+-- so does the whole message
 done_end : (past : Past) (i : ℕ) (before : Past) → 1 ≤ i → IsDoneBy past i before → done_of before ≡ taken_of past
 done_end past zero before lo h = absurd (omega arith)
 done_end past (suc i) before lo h = h.1
@@ -75,6 +78,7 @@ ack_in (SaysHead head) = None
 abbrev pub acks_by : Version → Past → ℕ → List ℕ
 acks_by v past k = filter_map ack_in (said_by v past k)
 
+-- the acknowledgements among items are those that they owe
 held_acks : (items : List Item) → filter_map ack_in (map (λ (item : Item). SaysItem item) items) ≡ owed_by items
 held_acks [] = refl
 held_acks (item ∷ items) = ap (cons_option (owed_in item)) (held_acks items)
@@ -113,6 +117,7 @@ pub ascends_above : (low : ℕ) (ns : List ℕ) (x : ℕ) → Ascends low ns →
 ascends_above low [] x h e = absurd (false≢true e)
 ascends_above low (n ∷ ns) x h e = elim (among_cons n ns x e) [ inl q ↦ omega (arith, h.0) | inr q ↦ (let l : n < x = ascends_above n ns x h.1 q in omega (arith, h.0)) ]
 
+-- numbers that ascend from somewhere ascend from 0
 ascends_lower : (low : ℕ) (ns : List ℕ) → Ascends low ns → Ascends 0 ns
 ascends_lower low [] h = tt
 ascends_lower low (n ∷ ns) h = (omega (arith, h.0), h.1)
@@ -188,6 +193,7 @@ no_acks end two v (Sent number t items ∷ past) fit k = by (number == k) (no_ac
 
 -- ---- heads
 
+-- the greatest number after one more is taken
 top_taken : (n : ℕ) (es : List Entry) (ds : List Delivered) (past : Past) → top_of (Took n es ds ∷ past) ≡ max n (top_of past)
 top_taken n es ds past = greatest_of-cons n (taken_of past)
 
@@ -239,6 +245,7 @@ pub record HeadFacts (past : Past) (k : ℕ) (head : Head) : Type 0 where
   pub taken : (x : ℕ) → is_among x (taken_of before) ≡ true → is_among x (done_of past) ≡ true
   pub positive : is_among 0 (taken_of before) ≡ false
 
+-- no packet 0 is taken
 taken_positive : (end : End) (past : Past) → DeedsFit end past → is_among 0 (taken_of past) ≡ false
 taken_positive end [] fit = refl
 taken_positive end (Ticked t s ∷ past) fit = taken_positive end past fit.1
@@ -254,9 +261,11 @@ taken_positive end (Took n es ds ∷ past) fit = elim (cases_Bool (is_among 0 (n
   ]
 ]
 
+-- the head stays right while more is heard to its end
 same_facts : (past later : Past) (k : ℕ) (head : Head) → top_when later k ≡ top_when past k → ((x : ℕ) → is_among x (done_of past) ≡ true → is_among x (done_of later) ≡ true) → HeadFacts past k head → HeadFacts later k head
 same_facts past later k head t d f = record { before = f.before; is = f.is; top = f.top ∙ sym t; taken = λ x h. d x (f.taken x h); positive = f.positive }
 
+-- the head that a packet says is the one of its past
 tells_head : (past : Past) (items : List Item) (head : Head) → IsIn (SaysHead head) (all_said Two past items) → head_of Two past ≡ head
 tells_head past items head (inl e) = same e
   where

@@ -30,12 +30,14 @@ opened_is_open Closing e = absurd (false≢true e)
 
 -- ---- what has arrived, as a whole
 
+-- all pass where more passes
 all_grow : (p q : ℕ → Bool) (ns : List ℕ) → ((n : ℕ) → p n ≡ true → q n ≡ true) → list_all p ns ≡ true → list_all q ns ≡ true
 all_grow p q [] h e = refl
 all_grow p q (n ∷ ns) h e =
     let b : (p n ≡ true) × (list_all p ns ≡ true) = and_parts (p n) (list_all p ns) e in
     and_from (q n) (list_all q ns) (h n b.0) (all_grow p q ns h b.1)
 
+-- all pass where the same passes
 all_same : (p q : ℕ → Bool) (ns : List ℕ) → ((n : ℕ) → p n ≡ q n) → list_all p ns ≡ list_all q ns
 all_same p q [] h = refl
 all_same p q (n ∷ ns) h = rw (h n, all_same p q ns h) refl
@@ -54,16 +56,19 @@ same_grows past later h ch n e = h ch n ∙ e
 
 -- ---- a state that still holds its index
 
+-- a close that has not arrived holds its index
 close_holds : (b c sleeps : Bool) → (b ≡ true → c ≡ true) → holds_index (closed_as c sleeps) ≡ true → holds_index (closed_as b sleeps) ≡ true
 close_holds false c sleeps h e = refl
 close_holds true true true h e = e
 close_holds true true false h e = e
 close_holds true false sleeps h e = absurd (false≢true (h refl))
 
+-- an open holds its index
 open_holds : (b : Bool) → holds_index (cond b Opened Opening) ≡ true
 open_holds true = refl
 open_holds false = refl
 
+-- a state that holds an index later held it before
 state_holds : (past later : Past) → Grows past later → (mark : Mark) (m : Message) → holds_index (state_after later mark m) ≡ true → holds_index (state_after past mark m) ≡ true
 state_holds past later h mark (Opens exports a class values) e = open_holds (have_arrived past mark.channel mark.number (parts_of mark.message))
 state_holds past later h mark (Closes a sleeps) e =
@@ -75,6 +80,7 @@ state_holds past later h mark (Calls a n call args) e = absurd (false≢true e)
 
 -- ---- where marks stay, an index can be given up alone
 
+-- an index that is held is the one of a mark
 some_index : (b : Bool) (o : Option Mark) (ch : ℕ) → index_at b o ≡ Some ch → (b ≡ true) × ((mark : Mark) × (o ≡ Some mark) × (mark.channel ≡ ch))
 some_index true (Some mark) ch e = (refl, (mark, refl, is mark.channel ch e))
   where
@@ -100,6 +106,7 @@ index_kept past later h a ch same e = by (last_mark later a) refl
 have_same : (past later : Past) → SameArrivals past later → (ch from count : ℕ) → have_arrived later ch from count ≡ have_arrived past ch from count
 have_same past later h ch from count = all_same (has_arrived later ch) (has_arrived past ch) (range_with_len from count) (h ch)
 
+-- a state is the same where arrivals are
 after_same : (past later : Past) → SameArrivals past later → (mark : Mark) (m : Message) → state_after later mark m ≡ state_after past mark m
 after_same past later h mark (Opens exports a class values) = ap (λ (b : Bool). cond b Opened Opening) (have_same past later h mark.channel mark.number (parts_of mark.message))
 after_same past later h mark (Closes a sleeps) = ap (λ (b : Bool). closed_as b sleeps) (have_same past later h mark.channel 1 mark.number)
@@ -126,19 +133,23 @@ index_same past later h a e =
 abbrev pub marks : ℕ → Message → Bool
 marks a m = actor_of m == a && is_mark m
 
+-- the last mark after some parts of a message
 abbrev MarkedUpTo : Past → (ch : ℕ) → Message → (a i : ℕ) → Past → Type 0
 MarkedUpTo past ch m a zero before = last_mark before a ≡ last_mark past a
 MarkedUpTo past ch m a (suc i) before =
     last_mark before a ≡ cond (marks a m) (Some (record { channel = ch; number = made_count past ch + 1 + 0; message = m })) (last_mark past a)
 
+-- a first part marks
 first_part : (b : Bool) (x : Mark) (o : Option Mark) (rest : List Mark) → slice_get rest 0 ≡ o → slice_get (cons_option (then_some (b && true) x) rest) 0 ≡ cond b (Some x) o
 first_part true x o rest e = refl
 first_part false x o rest e = e
 
+-- a later part marks nothing
 later_part : (b : Bool) (x : Mark) (rest : List Mark) → slice_get (cons_option (then_some (b && false) x) rest) 0 ≡ slice_get rest 0
 later_part true x rest = refl
 later_part false x rest = refl
 
+-- the last mark after one more part
 marked_step : (past : Past) (ch : ℕ) (m : Message) (a i : ℕ) (before : Past) → MarkedUpTo past ch m a i before
     → MarkedUpTo past ch m a (suc i) (Made ch (made_count past ch + 1 + i) m i ∷ before)
 marked_step past ch m a zero before h =
@@ -148,6 +159,7 @@ marked_step past ch m a (suc i) before h =
     (ne_eqb (suc i) 0 (λ q. absurd (omega arith)))
     ∙ later_part (marks a m) (record { channel = ch; number = made_count past ch + 1 + suc i; message = m }) (filter_map (mark_in a) before) ∙ h
 
+-- the last mark after all parts
 marked_end : (past : Past) (ch : ℕ) (m : Message) (a i : ℕ) (before : Past) → 1 ≤ i → MarkedUpTo past ch m a i before
     → last_mark before a ≡ cond (marks a m) (Some (record { channel = ch; number = made_count past ch + 1; message = m })) (last_mark past a)
 marked_end past ch m a zero before lo h = absurd (omega arith)
@@ -202,6 +214,7 @@ index_made end past c m may a ch e = by (marks a m) refl
 
 -- ---- the law
 
+-- the actors that were opened
 abbrev opens_of : Past → List ℕ
 opens_of past = filter_map opened_in past
 
@@ -230,6 +243,7 @@ pub held_found : (past : Past) → Holders past → (a ch : ℕ) → index_of pa
 held_found past h a ch e =
     any_at (λ b. holds past b ch) a (opened_actors past) (among_ascending (opens_of past) a (h.opened a ch e)) (ap (is_index ch) e ∙ eq-eqb ch ch refl)
 
+-- holders stay single where no index is newly held
 holders_fall : (past later : Past) → opens_of later ≡ opens_of past → ((a ch : ℕ) → index_of later a ≡ Some ch → index_of past a ≡ Some ch) → Holders past → Holders later
 holders_fall past later o f h = record {
   one = λ a b ch p q. h.one a b ch (f a ch p) (f b ch q);
@@ -237,6 +251,7 @@ holders_fall past later o f h = record {
   above = λ a ch p. h.above a ch (f a ch p);
 }
 
+-- an opened actor stays among the opened ones
 opens_grow : (past : Past) (c : ℕ) (m : Message) (a : ℕ) → is_among a (opens_of past) ≡ true → is_among a (opens_of (after_making past c m)) ≡ true
 opens_grow past c m a h =
     making_keeps (λ i before. is_among a (opens_of before) ≡ true) past c m h (λ i before lt e. step m i before e)
@@ -268,6 +283,7 @@ open_found past c m a ch o =
     at_end zero before lo f = absurd (omega arith)
     at_end (suc i) before lo f = f
 
+-- an open is made for its actor, on a free index
 opens_facts : (past : Past) (c : ℕ) (m : Message) (a ch : ℕ) → OpensOn past c m a ch → (actor_of m ≡ a) × (c ≡ ch) × (1 ≤ c) × (is_held past c ≡ false)
 opens_facts past c (Opens exports actor class values) a ch o = o
 opens_facts past c (Closes actor sleeps) a ch o = absurd o
@@ -275,6 +291,7 @@ opens_facts past c (Gone actor) a ch o = absurd o
 opens_facts past c (Updates actor class values) a ch o = absurd o
 opens_facts past c (Calls actor n call args) a ch o = absurd o
 
+-- holders stay single after a message is made
 holders_made : (end : End) (past : Past) (c : ℕ) (m : Message) → MayMake end past c m → Holders past → Holders (after_making past c m)
 holders_made end past c m may h = record {
   one = λ a b ch p q. both a b ch (index_made end past c m may a ch p) (index_made end past c m may b ch q);

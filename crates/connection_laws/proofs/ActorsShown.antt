@@ -36,6 +36,7 @@ pub all_filtered : {A : Type 0} (P : A → Type 0) (test : A → Bool) (xs : Lis
 all_filtered P test [] h = tt
 all_filtered P test (x ∷ xs) h = cond_both (test x) (x ∷ filter test xs) (filter test xs) (AllByRecursion P) (λ e. (h.0, all_filtered P test xs h.1)) (λ e. all_filtered P test xs h.1)
 
+-- what is filtered passes, and keeps what holds of all
 all_kept : {A : Type 0} (P : A → Type 0) (test : A → Bool) (xs : List A) → AllByRecursion P xs → AllByRecursion (λ (x : A). P x × (test x ≡ true)) (filter test xs)
 all_kept {A} P test [] h = tt
 all_kept {A} P test (x ∷ xs) h =

@@ -94,10 +94,12 @@ wholes_split (x ∷ xs) ys kept = by (ends_payload x) (wholes_split xs ys []) (w
     by true h g = ap (λ (l : List (Bunch × List Bool)). (first_of kept x, joined_bits kept x) ∷ l) h
     by false h g = g
 
+-- what came after an end of a payload is not changed by what comes before it
 since_cut : (xs : List Bunch) (b : Bunch) (ys : List Bunch) → ends_payload b ≡ true → items_since ends_payload (xs ++ b ∷ ys) ≡ items_since ends_payload (xs ++ [])
 since_cut [] b ys e = rw e refl
 since_cut (x ∷ xs) b ys e = ap (λ (l : List Bunch). cond (ends_payload x) [] (x ∷ l)) (since_cut xs b ys e)
 
+-- the bunches kept are those since the last end of a payload
 kept_like : (xs kept : List Bunch) → items_since ends_payload kept ≡ kept → items_since ends_payload (reverse xs ++ kept) ≡ kept_after kept xs
 kept_like [] kept h = h
 kept_like (x ∷ xs) kept h = by (ends_payload x) refl (kept_like xs [] refl) (λ q. kept_like xs (x ∷ kept) q)
@@ -121,11 +123,13 @@ pub record IsOn (ch : ℕ) (b : Bunch) : Type 0 where
   pub channel : b.channel ≡ ch
   pub reliable : b.reliable ≡ true
 
+-- what holds of what was received holds with one more
 offered_on : (P : Bunch → Type 0) (got : List Received) (b : Bunch) (o : Offer) → P b → AllByRecursion (λ (r : Received). P r.1) got → AllByRecursion (λ (r : Received). P r.1) (with_offer got b o)
 offered_on P got b Repeat p h = h
 offered_on P got b Ready p h = (p, h)
 offered_on P got b (Held n) p h = (p, h)
 
+-- each bunch received on an index is of it
 entry_on : (ch : ℕ) (got : List Received) (entry : Entry) → AllByRecursion (λ (r : Received). IsOn ch r.1) got → AllByRecursion (λ (r : Received). IsOn ch r.1) (with_entry got ch entry)
 entry_on ch got (Told head) h = h
 entry_on ch got (Acked n) h = h
@@ -135,6 +139,7 @@ entry_on ch got (Heard b) h =
     offered_on (IsOn ch) got b (offer_of got (number_as got b)) (record { channel = eqb-true b.channel ch q.1; reliable = q.0 }) h))
     (λ e. h)
 
+-- so of a packet
 received_by_on : (es : List Entry) (ch : ℕ) → AllByRecursion (λ (r : Received). IsOn ch r.1) (received_by es ch)
 received_by_on [] ch = tt
 received_by_on (entry ∷ es) ch = entry_on ch (received_by es ch) entry (received_by_on es ch)

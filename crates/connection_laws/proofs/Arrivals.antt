@@ -33,6 +33,7 @@ abbrev pub carried_among : Option ℕ → List ℕ → Bool
 carried_among None moved = false
 carried_among (Some k) moved = is_among k moved
 
+-- a bunch has arrived where its carrier moved
 by_carrier : (past : Past) (o : Option ℕ) → shows_arrival (option_fate past o) ≡ carried_among o (moved_of past)
 by_carrier past None = refl
 by_carrier past (Some k) = arrived_is_moved past k
@@ -115,6 +116,7 @@ named_step last a zs c h = by (int_lt (pos last) a) refl h
     by true e q = absurd (let no : Some (c a) ≡ None = q in cc)
     by false e q = (e, q)
 
+-- a number that is not refused is at most the last one sent
 above_step : (high last n : ℕ) (a : ℤ) (ns : List ℕ) → int_lt (pos last) a ≡ false
     → is_among n (cons_option (number_above high a) ns) ≡ true → ((high < n) × (n ≤ last)) ⊎ (is_among n ns ≡ true)
 above_step high last n (negsuc a) ns e h = inr h
@@ -148,6 +150,7 @@ moved_grows entry past n h =
 pub carrier_told : (entry : Entry) (past : Past) (ch n : ℕ) → carrier_of (with_told entry past) ch n ≡ carrier_of past ch n
 carrier_told entry past ch n = ap (λ (ks : List ℕ). slice_get ks 0) (told_ignored (carrier_in ch n) (λ n e es ds. refl) entry past)
 
+-- what was carried by what moved was, when more moved
 carried_grows : (o : Option ℕ) (ms ns : List ℕ) → ((n : ℕ) → is_among n ms ≡ true → is_among n ns ≡ true) → carried_among o ms ≡ true → carried_among o ns ≡ true
 carried_grows None ms ns h e = e
 carried_grows (Some k) ms ns h e = h k e

@@ -23,16 +23,19 @@ sent_count end (Ended g ∷ past) fit = sent_count end past fit.1
 sent_count end (Sent number t items ∷ past) fit =
     omega (arith, length-append (sent_bytes end past) (spelling_of end.version (packet_carrying end past number items) ∷ []), sent_count end past fit.1, fit.0.0, greatest_of-cons number (filter_map sent_in past))
 
+-- an item of the first list is in both
 get_first : {A : Type 0} (xs ys : List A) (j : ℕ) → j < length xs → slice_get (xs ++ ys) j ≡ slice_get xs j
 get_first [] ys j h = absurd (omega arith)
 get_first (x ∷ xs) ys zero h = refl
 get_first (x ∷ xs) ys (suc j) h = get_first xs ys j (omega arith)
 
+-- the next item comes after the first list
 get_after : {A : Type 0} (xs : List A) (y : A) (j : ℕ) → j ≡ length xs → slice_get (xs ++ y ∷ []) j ≡ Some y
 get_after [] y j h = rw h refl
 get_after (x ∷ xs) y zero h = absurd (omega arith)
 get_after (x ∷ xs) y (suc j) h = get_after xs y j (omega arith)
 
+-- nothing is behind a list
 get_past : {A : Type 0} (xs : List A) (j : ℕ) → length xs ≤ j → slice_get xs j ≡ None
 get_past [] j h = refl
 get_past (x ∷ xs) zero h = absurd (omega arith)
@@ -45,6 +48,7 @@ pub record BytesOf (end : End) (past : Past) (k : ℕ) (bytes : List ℕ) : Type
   pub sent : packet_at end past k ≡ Some packet
   pub spelled : bytes ≡ spelling_of end.version packet
 
+-- the bytes of a packet stay its bytes
 same_bytes : (end : End) (past later : Past) (k : ℕ) (bytes : List ℕ) → last_sent later ≡ last_sent past → packet_at end later k ≡ packet_at end past k → BytesOf end past k bytes → BytesOf end later k bytes
 same_bytes end past later k bytes l s b = record { last = omega (arith, b.last, l); packet = b.packet; sent = s ∙ b.sent; spelled = b.spelled }
 

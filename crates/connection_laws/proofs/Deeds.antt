@@ -24,15 +24,18 @@ each_at P (d ∷ later) deed earlier h = each_at P later deed earlier h.1
 
 -- ---- a message, part by part
 
+-- a past with some parts of a message fits
 abbrev IsMadeUpTo : End → Past → ℕ → Message → ℕ → Past → Type 0
 IsMadeUpTo end past ch m i before =
     DeedsFit end before × (made_count before ch ≡ made_count past ch + i) × FollowsPart before ch (made_count past ch + 1 + i) m i
 
+-- a part follows the one before it
 part_follows : (past : Past) (ch : ℕ) (m : Message) (i : ℕ) (before : Past) → FollowsPart (Made ch (made_count past ch + 1 + i) m i ∷ before) ch (made_count past ch + 1 + suc i) m (suc i)
 part_follows past ch m i before =
     let e : made_count past ch + 1 + suc i - 1 ≡ made_count past ch + 1 + i = omega arith in
     (before, rw e refl)
 
+-- one more part fits
 one_more : (end : End) (past : Past) (ch : ℕ) (m : Message) (i : ℕ) (before : Past) → i < parts_of m → IsMadeUpTo end past ch m i before
     → IsMadeUpTo end past ch m (suc i) (Made ch (made_count past ch + 1 + i) m i ∷ before)
 one_more end past ch m i before lt h =
@@ -49,6 +52,7 @@ making_fits end past ch m h =
 
 -- ---- a run
 
+-- each move fits what was before
 fits_step : (end : End) (past : Past) (move : Move) → IsRun end past → has_ended past ≡ false → May end past move → DeedsFit end past → DeedsFit end (after_move past move)
 fits_step end past (Ticks sight) run alive may h = (refl, h)
 fits_step end past (Makes ch m) run alive may h = making_fits end past ch m h

@@ -51,11 +51,13 @@ carrier_handed d past ch n = ap (λ (ks : List ℕ). slice_get ks 0) (handed_ign
 
 -- ---- what moved was sent
 
+-- what moved was sent, where the same moved and no less was sent
 moves_like : (past later : Past) → moved_of later ≡ moved_of past → last_sent past ≤ last_sent later → MovesSent past → MovesSent later
 moves_like past later e le h n q =
     let b : (1 ≤ n) × (n ≤ last_sent past) = h n (ap (is_among n) (sym e) ∙ q) in
     (b.0, omega (arith, b.1))
 
+-- an entry that is heard moves what was sent
 moves_told : (entry : Entry) (past : Past) → ack_cause past entry ≡ None → MovesSent past → MovesSent (with_told entry past)
 moves_told entry (Took k es ds ∷ past) may h n e =
     let before : List ℕ = moved_by (es ++ entries_of past) in
@@ -94,9 +96,11 @@ high_told entry past = greatest_grows (moved_of past) (moved_of (with_told entry
 
 -- ---- few are open
 
+-- few packets are open
 abbrev IsFew : Past → Type 0
 IsFew past = unresolved_count past ≤ 4096
 
+-- few stay open where none is sent
 few_like : (past later : Past) → last_sent later ≡ last_sent past → high_of past ≤ high_of later → IsFew past → IsFew later
 few_like past later s le h = omega arith
 
@@ -118,12 +122,14 @@ few_open end past run = always end IsFew (omega arith) step past run
 
 -- ---- what was carried was made
 
+-- what was carried was made, where the same was carried and no less made
 carries_like : (past later : Past) → ((ch n : ℕ) → carrier_of later ch n ≡ carrier_of past ch n) → ((ch : ℕ) → made_count past ch ≤ made_count later ch)
     → last_sent past ≤ last_sent later → CarriesMade past → CarriesMade later
 carries_like past later c m s h ch n k e =
     let b : (1 ≤ n) × (n ≤ made_count past ch) × (1 ≤ k) × (k ≤ last_sent past) = h ch n k (sym (c ch n) ∙ e) in
     (b.0, omega (arith, b.1, m ch), b.2, omega (arith, b.3))
 
+-- a packet that is sent carries what was made
 carries_sent : (end : End) (past : Past) (items : List Item) → MaySendAll end past items → CarriesMade past → CarriesMade (after_sending past items)
 carries_sent end past items may h ch n k e = by (list_any (is_carried_as ch n) items) refl
   where

@@ -9,6 +9,7 @@ use Rattle.connection_laws.proofs.Hearing.{datagram_runs}
 use Rattle.connection_laws.proofs.LiveRuns.{IsDone, runs_go}
 use Rattle.connection_laws.proofs.Ticking.{tick_runs}
 
+-- each event goes on with a run
 event_done : (end : End) (past : Past) (event : Event) → IsDone (IsRun end) past → IsDone (IsRun end) (after_event end past event)
 event_done end past (Tick sight) h = tick_runs end (IsRun end) (runs_go end) past sight (λ run alive. does (Ticks sight) run alive tt) h
 event_done end past (Got bytes) h = datagram_runs end past bytes h

@@ -40,6 +40,7 @@ abbrev Says : End → Past → (kept : List Bunch) → Bunch → Option Delivere
 Says end past kept b None = ends_payload b ≡ false
 Says end past kept b (Some d) = (ends_payload b ≡ true) × ReadFrom end d (first_of kept b, joined_bits kept b)
 
+-- a whole payload is handed on as it is read
 payload_says : (end : End) (past : Past) (kept : List Bunch) (b : Bunch) → ends_payload b ≡ true → (o : Option Delivered) → payload_result end past (first_of kept b) (joined_bits kept b) ≡ Ok o → Says end past kept b o
 payload_says end past kept b ends o e = by (payload_at end past (first_of kept b) (joined_bits kept b)) refl e
   where
@@ -60,12 +61,14 @@ payload_says end past kept b ends o e = by (payload_at end past (first_of kept b
     by (Ok got) q e = read got q o e
     by (Err fault) q e = absurd (let never : (let x : Result (Option Delivered) Cause = Err (payload_cause (first_of kept b).channel (length (joined_bits kept b)) fault) in x) ≡ Ok o = e in cc)
 
+-- what a bunch says, by the parts kept and what is wrong with it
 abbrev body : End → Past → (kept : List Bunch) → (own : List Bunch) → Bunch → Option PartWhy → Result (Option Delivered) Cause
 body end past kept own b o = elim o [
   | Some why ↦ Err (BadPart b.channel why)
   | None ↦ if ends_payload b then payload_result end past (first_of own b) (joined_bits own b) else Ok None
 ]
 
+-- it says nothing yet, or a payload that was read
 body_says : (end : End) (past : Past) (kept own : List Bunch) (b : Bunch) (f : Option PartWhy) (o : Option Delivered) → body end past kept own b f ≡ Ok o → Says end past own b o
 body_says end past kept own b (Some why) o e = absurd (let never : (let x : Result (Option Delivered) Cause = Err (BadPart b.channel why) in x) ≡ Ok o = e in cc)
 body_says end past kept own b None o e = by (ends_payload b) refl e
@@ -78,6 +81,7 @@ body_says end past kept own b None o e = by (ends_payload b) refl e
     by true q e = payload_says end past own b q o e
     by false q e = none o q e
 
+-- so a bunch does
 bunch_says : (end : End) (past : Past) (kept : List Bunch) (b : Bunch) (o : Option Delivered) → bunch_result end past kept b ≡ Ok o → Says end past (cond b.reliable kept []) b o
 bunch_says end past kept b o e = by (lacks_copy end.side past kept b) e
   where
@@ -97,6 +101,7 @@ pub record Handed (end : End) (past later : Past) (wholes : List (Bunch × List 
   pub is : later ≡ handing past news
   pub each : ReadEach end news wholes
 
+-- bunches of an index hand on the payloads that they end
 bunches_hand : (end : End) (past : Past) (ch : ℕ) (kept bunches : List Bunch) → AllByRecursion (IsOn ch) kept → AllByRecursion (IsOn ch) bunches → (bunches_result end past kept bunches).cause ≡ None
     → Handed end past (bunches_result end past kept bunches).past (wholes_from kept bunches)
 bunches_hand end past ch kept [] k h e = record { news = []; is = refl; each = tt }
@@ -137,12 +142,14 @@ bunches_hand end past ch kept (b ∷ bunches) k h e =
 
 -- ---- what was handed on from an index
 
+-- what is handed on stands with the packet under way
 handing_took : (n : ℕ) (es : List Entry) (past : Past) (news ds : List Delivered) → handing (Took n es ds ∷ past) news ≡ Took n es (reverse news ++ ds) ∷ past
 handing_took n es past [] ds = refl
 handing_took n es past (d ∷ news) ds =
     handing_took n es past news (d ∷ ds)
     ∙ ap (λ (l : List Delivered). Took n es l ∷ past) (sym (ap (λ (l : List Delivered). l ++ ds) (reverse-append (d ∷ []) news) ∙ append_assoc (reverse news) (d ∷ []) ds))
 
+-- the payload is a reliable one of the index
 abbrev is_from : ℕ → Delivered → Bool
 is_from ch d = d.channel == ch && d.reliable
 
@@ -151,10 +158,12 @@ all_from_index : (ch : ℕ) (news : List Delivered) → AllByRecursion (λ (d : 
 all_from_index ch [] h = refl
 all_from_index ch (d ∷ news) h = rw (h.0, all_from_index ch news h.1) refl
 
+-- payloads of other indexes are none of this one
 none_from_index : (ch : ℕ) (news : List Delivered) → AllByRecursion (λ (d : Delivered). is_from ch d ≡ false) news → filter (is_from ch) news ≡ []
 none_from_index ch [] h = refl
 none_from_index ch (d ∷ news) h = rw (h.0, none_from_index ch news h.1) refl
 
+-- filtering a list reversed
 filter_reverse : (t : Delivered → Bool) (xs : List Delivered) → filter t (reverse xs) ≡ reverse (filter t xs)
 filter_reverse t [] = refl
 filter_reverse t (x ∷ xs) =
@@ -171,6 +180,7 @@ handed_more ch news old =
     ∙ reverse-append (filter (is_from ch) (reverse news)) (filter (is_from ch) old)
     ∙ ap (λ (l : List Delivered). reverse (filter (is_from ch) old) ++ l) (ap reverse (filter_reverse (is_from ch) news) ∙ reverse-reverse (filter (is_from ch) news))
 
+-- payloads read in a row are read from wholes in a row
 reads_append : (end : End) (ds es : List Delivered) (ws vs : List (Bunch × List Bool)) → ReadEach end ds ws → ReadEach end es vs → ReadEach end (ds ++ es) (ws ++ vs)
 reads_append end [] es [] vs h g = g
 reads_append end [] es (w ∷ ws) vs h g = absurd h
@@ -191,6 +201,7 @@ reads_here end ch (d ∷ ds) [] h k = absurd h
 reads_here end ch (d ∷ ds) (w ∷ ws) h k =
     (and_from (d.channel == ch) d.reliable (eq-eqb d.channel ch (h.0.channel ∙ k.0.channel)) (h.0.reliable ∙ k.0.reliable), reads_here end ch ds ws h.1 k.1)
 
+-- what is read on another index is none of this one
 reads_elsewhere : (end : End) (ch other : ℕ) (ds : List Delivered) (ws : List (Bunch × List Bool)) → (ch ≡ other → ⊥) → ReadEach end ds ws → AllByRecursion (λ (w : Bunch × List Bool). IsOn ch w.0) ws
     → AllByRecursion (λ (d : Delivered). is_from other d ≡ false) ds
 reads_elsewhere end ch other [] ws ne h k = tt
@@ -332,6 +343,7 @@ module _ (end : End) (n : ℕ) (es : List Entry) (ds : List Delivered) (rest : P
 
 -- ---- a datagram
 
+-- an end that a datagram closed is closed
 closes : (cause : Cause) (past : Past) → is_closed_by (Ended (ByCause cause) ∷ past) ≡ false → ⊥
 closes cause past e = false≢true (sym e)
 
@@ -339,9 +351,11 @@ closes cause past e = false≢true (sym e)
 abbrev Under : ℕ → Past → Past → Type 0
 Under n rest now = (es : List Entry) × ((ds : List Delivered) × (now ≡ Took n es ds ∷ rest))
 
+-- the packet under way stays when a payload is handed on
 under_handed : (n : ℕ) (rest : Past) (d : Delivered) (now : Past) → Under n rest now → Under n rest (with_handed d now)
 under_handed n rest d now u = (u.0, (d ∷ u.1.0, ap (with_handed d) u.1.1))
 
+-- and when an entry is heard
 under_told : (n : ℕ) (rest : Past) (entry : Entry) (now : Past) → Under n rest now → Under n rest (with_told entry now)
 under_told n rest entry now u = (entry ∷ u.0, (u.1.0, ap (with_told entry) u.1.1))
 
@@ -373,6 +387,7 @@ entries_hand end n rest (entry ∷ more) now u y e =
     by (Some cause) q o next = absurd (closes cause (entry_result end now entry).past o)
     by None q o next = next (one q) o
 
+-- a datagram hands on what it completes
 reading_hands : (end : End) (past : Past) (r : Result Packet (ℕ × Why)) → HandsReceived end past → is_closed_by (after_reading end past r) ≡ false → HandsReceived end (after_reading end past r)
 reading_hands end past (Err bad) y e = y
 reading_hands end past (Ok p) y e =
@@ -386,6 +401,7 @@ pub record Still (before past : Past) : Type 0 where
   pub delivered : delivered_of past ≡ delivered_of before
   pub entries : entries_of past ≡ entries_of before
 
+-- a move that hears nothing hands nothing on
 still_goes : (end : End) (before past : Past) (move : Move) → IsQuiet move → IsRun end past × Still before past → has_ended past ≡ false → May end past move → IsRun end (after_move past move) × Still before (after_move past move)
 still_goes end before past (Ticks sight) quiet h alive may = (does (Ticks sight) h.0 alive may, record { delivered = h.1.delivered; entries = h.1.entries })
 still_goes end before past (Makes ch m) quiet h alive may = (
@@ -402,6 +418,7 @@ still_goes end before past (Hears entry) quiet h alive may = absurd quiet
 still_goes end before past (Hands d) quiet h alive may = absurd quiet
 still_goes end before past (Ends g) quiet h alive may = (does (Ends g) h.0 alive may, record { delivered = h.1.delivered; entries = h.1.entries })
 
+-- so do moves in a row
 stills : (end : End) (before : Past) → Goes end (λ (past : Past). IsRun end past × Still before past)
 stills end before = record { is_run = λ past h. h.0; goes = still_goes end before }
 
@@ -426,6 +443,7 @@ stays_closed end past event e = ap is_closed_by (ended_stays end past event (end
     ended (Deed.Waits m ∷ past) e = ended past e
     ended (Deed.Sent n t items ∷ past) e = ended past e
 
+-- each event hands on what it completes
 event_hands : (end : End) (past : Past) (event : Event) → IsDone (IsRun end) past → HandsReceived end past → is_closed_by (after_event end past event) ≡ false → HandsReceived end (after_event end past event)
 event_hands end past (Tick sight) h y e =
     still_hands end past (after_event end past (Tick sight)) (tick_runs end (λ (p : Past). IsRun end p × Still past p) (stills end past) past sight

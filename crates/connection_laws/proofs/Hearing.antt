@@ -95,6 +95,7 @@ pub packet_runs : (end : End) (past : Past) (p : Packet) → IsLiveRun (IsRun en
 packet_runs end past p h e =
     entries_run end (Took (unsigned_abs (number_near past p.number)) [] [] ∷ past) (entries_in end.version p) (begun_runs end past p h e)
 
+-- reading a datagram goes on with a run
 reading_runs : (end : End) (past : Past) (r : Result Packet (ℕ × Why)) → IsLiveRun (IsRun end) past → IsDone (IsRun end) (after_reading end past r)
 reading_runs end past (Err bad) h = live_done (IsRun end) past h
 reading_runs end past (Ok p) h = cond_both (is_new past p.number) (after_packet end past p) past (IsDone (IsRun end)) (λ e. packet_runs end past p h e) (λ e. live_done (IsRun end) past h)

@@ -13,6 +13,7 @@ use Rattle.connection_laws.proofs.Spans.{unused_span}
 
 -- ---- what is among numbers in order
 
+-- what is among numbers is among them with one more
 among_inserted : (before : ℕ → ℕ → Bool) (x : ℕ) (ys : List ℕ) (n : ℕ) → is_among n (x ∷ ys) ≡ true → is_among n (insert_in_order before x ys) ≡ true
 among_inserted before x [] n h = h
 among_inserted before x (y ∷ ys) n h = elim (cases_Bool (before y x)) [
@@ -26,6 +27,7 @@ among_inserted before x (y ∷ ys) n h = elim (cases_Bool (before y x)) [
   | inr e ↦ rw e h
 ]
 
+-- and in order
 among_in_order : (before : ℕ → ℕ → Bool) (xs : List ℕ) (n : ℕ) → is_among n xs ≡ true → is_among n (in_order before xs) ≡ true
 among_in_order before [] n h = h
 among_in_order before (x ∷ xs) n h = elim (among_cons x xs n h) [
@@ -33,6 +35,7 @@ among_in_order before (x ∷ xs) n h = elim (among_cons x xs n h) [
   | inr q ↦ among_inserted before x (in_order before xs) n (among_there x (in_order before xs) n (among_in_order before xs n q))
 ]
 
+-- and each once
 among_each_once : (xs : List ℕ) (n : ℕ) → is_among n xs ≡ true → is_among n (each_once xs) ≡ true
 among_each_once [] n h = h
 among_each_once (x ∷ xs) n h = elim (cases_Bool (is_among x xs)) [
@@ -68,6 +71,7 @@ without_shorter k (n ∷ ns) h = elim (cases_Bool (n == k)) [
   ])
 ]
 
+-- another number stays
 without_keeps : (k i : ℕ) (ns : List ℕ) → (i ≡ k → ⊥) → is_among i ns ≡ true → is_among i (without k ns) ≡ true
 without_keeps k i [] ne h = h
 without_keeps k i (n ∷ ns) ne h = elim (cases_Bool (n == k)) [
@@ -138,9 +142,11 @@ held_used past ch (a ∷ actors) h = elim (or_cases (holds past a ch) (list_any 
 
 -- ---- the free index is free
 
+-- nobody holds the index, and it has no span
 abbrev is_free : Past → ℕ → Bool
 is_free past ch = not (is_held past ch) && (span past ch == 0)
 
+-- an index that is not free was used
 not_free_used : (past : Past) (ch : ℕ) → is_free past ch ≡ false → is_among ch (channels_of past) ≡ true
 not_free_used past ch e = among_ascending (filter_map channel_in past) ch (used (is_held past ch) refl e)
   where

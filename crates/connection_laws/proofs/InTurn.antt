@@ -26,6 +26,7 @@ pub record OpenMark (past : Past) (b ch : ℕ) : Type 0 where
   pub opens : is_opening mark.message ≡ true
   pub on : mark.channel ≡ ch
 
+-- an open mark leaves an open state that holds its index
 open_state : (past : Past) (mark : Mark) (m : Message) → is_opening m ≡ true → (is_open (state_after past mark m) ≡ true) × (holds_index (state_after past mark m) ≡ true)
 open_state past mark (Opens exports a class values) e = by (have_arrived past mark.channel mark.number (parts_of mark.message))
   where
@@ -46,11 +47,13 @@ open_holds_it past b ch o =
       ap is_open state ∙ s.0,
     )
 
+-- a close leaves no open state
 closed_not_open : (t sleeps : Bool) → is_open (closed_as t sleeps) ≡ false
 closed_not_open false sleeps = refl
 closed_not_open true true = refl
 closed_not_open true false = refl
 
+-- an open state is left by an open
 open_message_of : (past : Past) (mark : Mark) (m : Message) → is_open (state_after past mark m) ≡ true → is_opening m ≡ true
 open_message_of past mark (Opens exports a class values) e = refl
 open_message_of past mark (Closes a sleeps) e = absurd (false≢true (sym (closed_not_open (have_arrived past mark.channel 1 mark.number) sleeps) ∙ e))
@@ -284,12 +287,15 @@ module _ (end : End) (past : Past) (h : Holders past) (u : Users past) (c : ℕ)
 
 -- ---- the law
 
+-- uses stand one after another, and the user is the open actor
 abbrev Both : Past → Type 0
 Both past = Users past × BracketsFit past
 
+-- it stays so where messages and marks do
 brackets_like : (past later : Past) → ((ch : ℕ) → on_index ch later ≡ on_index ch past) → ((b : ℕ) → last_mark later b ≡ last_mark past b) → Both past → Both later
 brackets_like past later m l h = (users_like past later m l h.0, λ ch. subst Brackets (sym (m ch)) (h.1 ch))
 
+-- it stays so move by move
 brackets_step : (end : End) → end.side ≡ AtServer → (past : Past) (move : Move) → IsRun end past → has_ended past ≡ false → May end past move → Both past → Both (after_move past move)
 brackets_step end s past (Ticks sight) run alive may h = brackets_like past (after_move past (Ticks sight)) (λ ch. refl) (λ b. refl) h
 brackets_step end s past (Makes c m) run alive may h = (
@@ -309,6 +315,7 @@ brackets_step end s past (Hands d) run alive may h =
     brackets_like past (with_handed d past) (λ ch. handed_ignored (numbered_in ch) (λ n es d ds. refl) d past) (mark_handed d past) h
 brackets_step end s past (Ends g) run alive may h = brackets_like past (after_move past (Ends g)) (λ ch. refl) (λ b. refl) h
 
+-- it is so in a run
 both_fit : (end : End) → end.side ≡ AtServer → (past : Past) → IsRun end past → Both past
 both_fit end s past run = always end Both (first, λ ch. tt) (brackets_step end s) past run
   where

@@ -168,6 +168,7 @@ unmarked end past c (Gone actor) may o a ch e = absurd (false≢true o)
 unmarked end past c (Updates actor class values) may o a ch e = absurd (false≢true o)
 unmarked end past c (Calls actor n call args) may o a ch e = absurd (false≢true o)
 
+-- making a message changes no copy
 copies_made : (past : Past) (c : ℕ) (m : Message) (a : ℕ) → copy_channel (after_making past c m) a ≡ copy_channel past a
 copies_made past c m a =
     ap (λ (ds : List Delivered). unwrap_or (newest_of (channel_said a) (items_since (removes a) ds)) None) (made_ignored_all handed_in (λ c n m i. refl) past c m)
@@ -227,11 +228,13 @@ parts_may_go end past h ch m i lt = (
 
 -- ---- the due items
 
+-- a lost packet has not arrived
 due_fate : (fate : Fate) → is_lost fate ≡ true → is_arrived fate ≡ false
 due_fate Lost e = refl
 due_fate Open e = refl
 due_fate Arrived e = absurd (false≢true e)
 
+-- a bunch that is to be sent again has not arrived
 due_option : (o : Option Fate) → shows_need o ≡ true → shows_arrival o ≡ false
 due_option None e = refl
 due_option (Some fate) e = due_fate fate e
@@ -240,6 +243,7 @@ due_option (Some fate) e = due_fate fate e
 pub due_unarrived : (past : Past) (ch n : ℕ) → is_due past ch n ≡ true → has_arrived past ch n ≡ false
 due_unarrived past ch n e = due_option (option_fate past (carrier_of past ch n)) e
 
+-- a due bunch may be carried
 carrying_may : (end : End) (past : Past) (ch n : ℕ) (rest : List Item) → 1 ≤ n → n ≤ made_count past ch → is_due past ch n ≡ true → AllByRecursion (MayGo end past) rest
     → AllByRecursion (MayGo end past) (cons_option (carrying_item past ch n) rest)
 carrying_may end past ch n rest lo hi due all = by (newest_of (made_as ch n) past) refl
@@ -248,6 +252,7 @@ carrying_may end past ch n rest lo hi due all = by (newest_of (made_as ch n) pas
     by None e = all
     by (Some b) e = ((record { low = lo; high = hi; made = e; unarrived = due_unarrived past ch n due }, refl), all)
 
+-- the due bunches of a range may be carried
 due_range : (end : End) (past : Past) (ch from count : ℕ) → 1 ≤ from → from + count ≤ made_count past ch + 1
     → AllByRecursion (MayGo end past) (filter_map (carrying_item past ch) (filter (is_due past ch) (range_with_len from count)))
 due_range end past ch from zero lo hi = tt
@@ -280,6 +285,7 @@ waits_like past later e (Gone a) q = q
 waits_like past later e (Updates a class values) q = q
 waits_like past later e (Calls a n call args) q = (q.0, (q.1.0, q.1.1, e ∙ q.1.2))
 
+-- a call that waits has its place
 loose_call : (end : End) (past : Past) (ch : ℕ) (m : Message) → WaitsLoose past m → call_channel end.side past (actor_of m) ≡ Some ch → HasLoosePlace end past ch m
 loose_call end past ch (Opens exports a class values) q e = q
 loose_call end past ch (Closes a sleeps) q e = q
@@ -305,6 +311,7 @@ waited end whole past (Gone a) newer e q = q
 waited end whole past (Updates a class values) newer e q = q
 waited end whole past (Calls a n call args) newer e q = (q.0, (newer, filter_map waits_in past, e))
 
+-- the calls left waiting since a tick are unreliable
 since_loose : (end : End) (whole past : Past) (newer : List Message) → filter_map waits_in whole ≡ newer ++ filter_map waits_in past → DeedsFit end past → AllByRecursion (WaitsLoose whole) (filter_map waits_in (deeds_since_tick past))
 since_loose end whole [] newer e fit = tt
 since_loose end whole (Ticked t s ∷ past) newer e fit = tt

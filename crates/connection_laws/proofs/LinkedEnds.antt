@@ -37,7 +37,7 @@ use Rattle.connection_laws.proofs.Items.{made_stays}
 use Rattle.connection_laws.proofs.PacketsSay.{said_made, said_old}
 use Rattle.connection_laws.proofs.AcksTaken.{done_made, done_told, done_handed, done_taken}
 use Rattle.connection_laws.proofs.Transfer.{Way, Transfers, core_start, core_from, core_to, core_takes, core_hears, reads_packet, high_at_most}
-use Rattle.connection_laws.proofs.AcksRead.{Fresh, HeadWaits, left_of, fresh_start, fresh_me, fresh_takes, fresh_other, fresh_sends, Told1, NamesSent, next_one, next_two, next_names_one, next_names_two}
+use Rattle.connection_laws.proofs.AcksRead.{Fresh, HeadWaits, left_of, fresh_start, fresh_me, fresh_takes, fresh_other, fresh_sends, StaysFresh, NamesSent, next_one, next_two, next_names_one, next_names_two}
 
 -- what holds of both ways between two ends
 pub record Both (v : Version) (me other : Past) : Type 0 where
@@ -52,6 +52,7 @@ turned v me other b = record { out = b.back; back = b.out; heard = b.said; said 
 
 -- ---- what was told was heard to its end
 
+-- what is acknowledged was heard to its end
 abbrev TellsDone : Past → Type 0
 TellsDone past = (x : ℕ) → is_among x (acknowledged_of past) ≡ true → is_among x (done_of past) ≡ true
 
@@ -73,19 +74,23 @@ tells_done end past run = always end TellsDone (λ x h. absurd (false≢true h))
 
 -- ---- a message is made
 
+-- nothing is left to hear while a message is made
 abbrev NothingLeft : Version → Past → ℕ → Past → Type 0
 NothingLeft v other zero before = Unit {0}
 NothingLeft v other (suc i) before = Way v other before × (left_of v before other ≡ []) × HeadWaits before other
 
+-- nothing is left after a message is made
 left_end : (v : Version) (other : Past) (i : ℕ) (before : Past) → 1 ≤ i → NothingLeft v other i before → Way v other before × (left_of v before other ≡ []) × HeadWaits before other
 left_end v other zero before lo h = absurd (omega arith)
 left_end v other (suc i) before lo h = h
 
+-- so it is while none was
 left_made : (v : Version) (other past : Past) (ch : ℕ) (m : Message) → Way v other (after_making past ch m) × (left_of v (after_making past ch m) other ≡ []) × HeadWaits (after_making past ch m) other
 left_made v other past ch m =
     left_end v other (parts_of m) (after_making past ch m) (some_parts m)
     (making_keeps (NothingLeft v other) past ch m tt (λ i before lt h. (tt, refl, tt)))
 
+-- making a message receives nothing
 received_made : (past : Past) (c : ℕ) (m : Message) (ch : ℕ) → received_on (after_making past c m) ch ≡ received_on past ch
 received_made past c m ch = ap (λ (es : List Entry). received_by es ch) (made_ignored_all entries_in (λ c n m i. refl) past c m)
 
@@ -131,9 +136,9 @@ module _ (v : Version) (mine theirs : End) (mv : mine.version ≡ v) (tv : their
 
   -- the next entry of the packet under way
   told_next : (k : ℕ) (es : List Entry) (ds : List Delivered) (past : Past) (entry : Entry) → IsRun mine (Took k es ds ∷ past) → Both v (Took k es ds ∷ past) other → IsNext v other (Took k es ds ∷ past) entry
-      → Told1 v (Took k es ds ∷ past) (Took k (entry ∷ es) ds ∷ past) other
+      → StaysFresh v (Took k es ds ∷ past) (Took k (entry ∷ es) ds ∷ past) other
   told_next k es ds past entry run b next =
-      subst (λ (x : Entry). Told1 v (Took k es ds ∷ past) (Took k (x ∷ es) ds ∷ past) other) (sym next.5) (by v refl b.heard)
+      subst (λ (x : Entry). StaysFresh v (Took k es ds ∷ past) (Took k (x ∷ es) ds ∷ past) other) (sym next.5) (by v refl b.heard)
     where
       long : length es ≡ length next.0
       long = ap length next.4 ∙ length-reverse (map entry_said next.0) ∙ length-map next.0 entry_said
@@ -144,11 +149,11 @@ module _ (v : Version) (mine theirs : End) (mv : mine.version ≡ v) (tv : their
       few : last_sent past ≤ high_of (Took k es ds ∷ past) + 4096
       few = (let u : unresolved_count (Took k es ds ∷ past) ≤ 4096 = (fates_fit mine (Took k es ds ∷ past) run).unresolved in omega arith)
 
-      by : (w : Version) → v ≡ w → Fresh w (Took k es ds ∷ past) other → Told1 v (Took k es ds ∷ past) (Took k (entry_said next.1 ∷ es) ds ∷ past) other
-      by One e f = subst (λ (w : Version). Told1 w (Took k es ds ∷ past) (Took k (entry_said next.1 ∷ es) ds ∷ past) other) (sym e)
+      by : (w : Version) → v ≡ w → Fresh w (Took k es ds ∷ past) other → StaysFresh v (Took k es ds ∷ past) (Took k (entry_said next.1 ∷ es) ds ∷ past) other
+      by One e f = subst (λ (w : Version). StaysFresh w (Took k es ds ∷ past) (Took k (entry_said next.1 ∷ es) ds ∷ past) other) (sym e)
           (next_one theirs (tv ∙ e) other (deeds_fit theirs other their_run) k es ds past (tells_done theirs other their_run) sent few f next.1 next.0 next.2
           (subst (λ (w : Version). said_by w other k ≡ next.0 ++ next.1 ∷ next.2) e next.3) long)
-      by Two e f = subst (λ (w : Version). Told1 w (Took k es ds ∷ past) (Took k (entry_said next.1 ∷ es) ds ∷ past) other) (sym e)
+      by Two e f = subst (λ (w : Version). StaysFresh w (Took k es ds ∷ past) (Took k (entry_said next.1 ∷ es) ds ∷ past) other) (sym e)
           (next_two theirs (tv ∙ e) other (deeds_fit theirs other their_run) k es ds past sent few (b.back.sent k (among_here k (taken_of past) k refl)).1 f next.1 next.0 next.2
           (subst (λ (w : Version). said_by w other k ≡ next.0 ++ next.1 ∷ next.2) e next.3) next.4)
 
@@ -174,7 +179,7 @@ module _ (v : Version) (mine theirs : End) (mv : mine.version ≡ v) (tv : their
 
   hears_step : (me : Past) (entry : Entry) → IsRun mine me → Both v me other → IsNext v other me entry → Both v (with_told entry me) other
   hears_step (Took k es ds ∷ past) entry run b next =
-      let told : Told1 v (Took k es ds ∷ past) (Took k (entry ∷ es) ds ∷ past) other = told_next k es ds past entry run b next in
+      let told : StaysFresh v (Took k es ds ∷ past) (Took k (entry ∷ es) ds ∷ past) other = told_next k es ds past entry run b next in
       record {
         out = core_from v (Took k es ds ∷ past) (Took k (entry ∷ es) ds ∷ past) other b.out (λ k le. refl) (omega arith) told.moved (λ ch. omega arith) (λ ch n le. refl);
         back = core_hears v theirs other k es ds past entry their_run b.back (deeds_fit mine (Took k es ds ∷ past) run).0 next;
@@ -263,6 +268,7 @@ both v left right lv rv l r (right_does {l = a} {r = b} move link alive may hone
 
 -- ---- what is heard next names what was sent
 
+-- where each number named is low, none is refused
 none_above : (l : ℕ) (zs : List ℤ) → ((z : ℤ) → IsIn z zs → (x : ℕ) → z ≡ pos x → x ≤ l) → newest_of (λ a. then_some (int_lt (pos l) a) (BadAck a l)) zs ≡ None
 none_above l [] h = refl
 none_above l (negsuc n ∷ zs) h = none_above l zs (λ z q. h z (inr q))

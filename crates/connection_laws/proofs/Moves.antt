@@ -8,6 +8,7 @@ use Rattle.connection_model.specs.Verdict.{with_told, with_handed}
 
 -- ---- making a message, part by part
 
+-- what each part keeps the parts from some place on keep
 parts_from : (P : ℕ → Past → Type 0) (ch first : ℕ) (m : Message) (count i : ℕ) (past : Past) → P i past
     → ((j : ℕ) (before : Past) → i ≤ j → j < i + count → P j before → P (suc j) (Made ch (first + j) m j ∷ before))
     → P (i + count) (fold (λ (before : Past) (j : ℕ). Made ch (first + j) m j ∷ before) past (range_with_len i count))

@@ -26,9 +26,11 @@ use Rattle.connection_laws.proofs.Transfer.{Transfers, arrived_received}
 abbrev but : ℕ → (ℕ → ℕ) → ℕ → ℕ
 but c f n = if n == c then 0 else f n
 
+-- a number that is left out counts for nothing
 but_here : (c : ℕ) (f : ℕ → ℕ) → but c f c ≡ 0
 but_here c f = ap (λ (b : Bool). if b then 0 else f c) (eq-eqb c c refl)
 
+-- the others count as before
 but_there : (c : ℕ) (f : ℕ → ℕ) (n : ℕ) → (c ≡ n → ⊥) → but c f n ≡ f n
 but_there c f n ne = ap (λ (b : Bool). if b then 0 else f n) (ne_eqb n c (λ e. ne (sym e)))
 
@@ -73,15 +75,18 @@ abbrev pub AreDistinct : List ℕ → Type 0
 AreDistinct [] = Unit {0}
 AreDistinct (n ∷ ns) = (is_among n ns ≡ false) × AreDistinct ns
 
+-- what is not among a list is not among its rest
 not_there : (n k : ℕ) (ns : List ℕ) → is_among n (k ∷ ns) ≡ false → is_among n ns ≡ false
 not_there n k ns e = elim (cases_Bool (is_among n ns)) [ inl q ↦ absurd (false≢true (sym e ∙ among_there k ns n q)) | inr q ↦ q ]
 
+-- what is left was there
 without_less : (k n : ℕ) (ns : List ℕ) → is_among n (without k ns) ≡ true → is_among n ns ≡ true
 without_less k n [] h = h
 without_less k n (x ∷ ns) h =
     cond_both (x == k) ns (x ∷ without k ns) (λ (l : List ℕ). is_among n l ≡ true → is_among n (x ∷ ns) ≡ true) (λ e q. among_there x ns n q)
     (λ e q. elim (among_cons x (without k ns) n q) [ inl r ↦ among_here x ns n r | inr r ↦ among_there x ns n (without_less k n ns r) ]) h
 
+-- different numbers stay different without one
 without_distinct : (k : ℕ) (ns : List ℕ) → AreDistinct ns → AreDistinct (without k ns)
 without_distinct k [] h = tt
 without_distinct k (x ∷ ns) h =
@@ -90,6 +95,7 @@ without_distinct k (x ∷ ns) h =
     still : is_among x (without k ns) ≡ false
     still = elim (cases_Bool (is_among x (without k ns))) [ inl q ↦ absurd (false≢true (sym h.0 ∙ without_less k x ns q)) | inr q ↦ q ]
 
+-- a number left out of different ones is gone
 without_it : (k : ℕ) (ns : List ℕ) → AreDistinct ns → is_among k (without k ns) ≡ true → ⊥
 without_it k [] d h = false≢true h
 without_it k (x ∷ ns) d h =
@@ -110,11 +116,13 @@ distinct_fit (suc room) a ns d h = elim (cases_Bool (is_among (suc a) ns)) [
 
 -- ---- what is held on an index
 
+-- one more that is new leaves them different
 offered_distinct : (got : List Received) (b : Bunch) (o : Offer) → AreDistinct (numbers_of got) → ((n : ℕ) → o ≡ Held n → has got n ≡ false) → AreDistinct (numbers_of (with_offer got b o))
 offered_distinct got b Repeat d h = d
 offered_distinct got b Ready d h = (next_new got, d)
 offered_distinct got b (Held n) d h = (h n refl, d)
 
+-- so does an entry
 entry_distinct : (ch : ℕ) (got : List Received) (entry : Entry) → AreDistinct (numbers_of got) → AreDistinct (numbers_of (with_entry got ch entry))
 entry_distinct ch got (Told head) d = d
 entry_distinct ch got (Acked n) d = d
@@ -133,6 +141,7 @@ entry_distinct ch got (Heard b) d =
     same : (k n : ℕ) → (let o : Offer = Held k in o) ≡ Held n → k ≡ n
     same k n q = cc
 
+-- so do the entries of a packet
 received_by_distinct : (es : List Entry) (ch : ℕ) → AreDistinct (numbers_of (received_by es ch))
 received_by_distinct [] ch = tt
 received_by_distinct (entry ∷ es) ch = entry_distinct ch (received_by es ch) entry (received_by_distinct es ch)
@@ -145,6 +154,7 @@ above_in t (r ∷ got) n h =
     (λ e q. elim (among_cons r.0 (numbers_of (filter t got)) n q) [ inl s ↦ among_here r.0 (numbers_of got) n s | inr s ↦ among_there r.0 (numbers_of got) n (above_in t got n s) ])
     (λ e q. among_there r.0 (numbers_of got) n (above_in t got n q)) h
 
+-- those that pass are different
 above_distinct : (t : Received → Bool) (got : List Received) → AreDistinct (numbers_of got) → AreDistinct (numbers_of (filter t got))
 above_distinct t [] d = tt
 above_distinct t (r ∷ got) d =
@@ -154,6 +164,7 @@ above_distinct t (r ∷ got) d =
     still : is_among r.0 (numbers_of (filter t got)) ≡ false
     still = elim (cases_Bool (is_among r.0 (numbers_of (filter t got)))) [ inl q ↦ absurd (false≢true (sym d.0 ∙ above_in t got r.0 q)) | inr q ↦ q ]
 
+-- those above the next number are above it
 above_next : (next : ℕ) (got : List Received) (n : ℕ) → is_among n (numbers_of (filter (λ (r : Received). nat_lt next r.0) got)) ≡ true → next < n
 above_next next [] n h = absurd (false≢true h)
 above_next next (r ∷ got) n h =

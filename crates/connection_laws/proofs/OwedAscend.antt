@@ -33,12 +33,14 @@ taken_falls end past run = always end (λ p. Falls (taken_of p)) tt step past ru
     step past (Hands d) run alive may h = subst Falls (sym (taken_handed d past)) h
     step past (Ends ending) run alive may h = h
 
+-- numbers that fall begin with numbers that fall
 falls_first : (xs ys : List ℕ) → Falls (xs ++ ys) → Falls xs
 falls_first [] ys h = tt
 falls_first (x ∷ xs) ys h = (omega (arith, h.0, greatest_of-append xs ys), falls_first xs ys h.1)
 
 -- ---- a list and what came after its newest item of a kind
 
+-- what came since something is the newest part
 since_begins : {A : Type 0} (test : A → Bool) (xs : List A) → (rest : List A) × (xs ≡ items_since test xs ++ rest)
 since_begins test [] = ([], refl)
 since_begins {A = A} test (x ∷ xs) = by (test x) refl (since_begins test xs)
@@ -55,17 +57,20 @@ taken_since_begins past =
 
 -- ---- ascending
 
+-- ascending numbers with a greater one ascend
 ascends_push : (low : ℕ) (xs : List ℕ) (n : ℕ) → Ascends low xs → greatest_of xs < n → low < n → Ascends low (xs ++ n ∷ [])
 ascends_push low [] n h g l = (l, tt)
 ascends_push low (x ∷ xs) n h g l =
     (h.0, ascends_push x xs n h.1 (omega (arith, g, greatest_of-cons x xs)) (omega (arith, g, greatest_of-cons x xs)))
 
+-- the greatest of a list reversed
 greatest_reverse : (xs : List ℕ) → greatest_of (reverse xs) ≡ greatest_of xs
 greatest_reverse [] = refl
 greatest_reverse (x ∷ xs) =
     ap greatest_of (reverse-append (x ∷ []) xs)
     ∙ omega (arith, greatest_of-append (reverse xs) (x ∷ []), greatest_reverse xs, greatest_of-cons x xs)
 
+-- numbers that fall ascend when reversed
 falls_ascends : (low : ℕ) (ns : List ℕ) → Falls ns → ((n : ℕ) → is_among n ns ≡ true → low < n) → Ascends low (reverse ns)
 falls_ascends low [] h above = tt
 falls_ascends low (n ∷ ns) h above =
@@ -73,6 +78,7 @@ falls_ascends low (n ∷ ns) h above =
     (ascends_push low (reverse ns) n (falls_ascends low ns h.1 (λ k e. above k (among_there n ns k e)))
     (omega (arith, greatest_reverse ns, h.0)) (above n (among_here n ns n refl)))
 
+-- what is among a list reversed is among it
 among_reverse : (xs : List ℕ) (n : ℕ) → is_among n (reverse xs) ≡ true → is_among n xs ≡ true
 among_reverse [] n h = h
 among_reverse (x ∷ xs) n h = elim (among_append (reverse xs) (x ∷ []) n (ap (is_among n) (sym (reverse-append (x ∷ []) xs)) ∙ h)) [
@@ -82,6 +88,7 @@ among_reverse (x ∷ xs) n h = elim (among_append (reverse xs) (x ∷ []) n (ap 
 
 -- ---- what is owed
 
+-- what is among a prefix is among the list
 among_take : (k : ℕ) (xs : List ℕ) (n : ℕ) → is_among n (take k xs) ≡ true → is_among n xs ≡ true
 among_take k xs n h = ap (is_among n) (sym (take-append-drop k xs)) ∙ among_left (take k xs) (drop k xs) n h
 

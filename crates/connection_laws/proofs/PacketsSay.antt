@@ -59,6 +59,7 @@ all_at P x (y ∷ xs) all (inr h) = all_at P x xs all.1 h
 
 -- ---- the items of a packet
 
+-- an item that is said stands among the items
 held_item : (x : Item) (items : List Item) → IsIn (SaysItem x) (map (λ (item : Item). SaysItem item) items) → IsIn x items
 held_item x [] h = absurd h
 held_item x (y ∷ items) (inl e) = inl (same e)
@@ -76,6 +77,7 @@ said_item Two past items x (inl e) = absurd (no e)
     no e = cc
 said_item Two past items x (inr h) = held_item x items h
 
+-- and the other way round
 item_held : (x : Item) (items : List Item) → IsIn x items → IsIn (SaysItem x) (map (λ (item : Item). SaysItem item) items)
 item_held x [] h = absurd h
 item_held x (y ∷ items) (inl e) = inl (ap (λ (item : Item). SaysItem item) e)
@@ -136,6 +138,7 @@ pub record CarriedFacts (past : Past) (ch n k : ℕ) (bunch : Bunch) : Type 0 wh
   pub made : newest_of (made_as ch n) past ≡ Some bunch
   pub carrier : (c : ℕ) × (carrier_of past ch n ≡ Some c) × (k ≤ c)
 
+-- a bunch that is carried is found
 carried_any : (ch n : ℕ) (b : Bunch) (items : List Item) → IsIn (Carries ch n b) items → list_any (is_carried_as ch n) items ≡ true
 carried_any ch n b [] h = absurd h
 carried_any ch n b (item ∷ items) (inl e) = or_left (is_carried_as ch n item) (list_any (is_carried_as ch n) items) (ap (is_carried_as ch n) e ∙ and_from (eqb ch ch) (eqb n n) (eq-eqb ch ch refl) (eq-eqb n n refl))
@@ -189,6 +192,7 @@ carried_facts end v (Sent number t items ∷ past) fit ch n k b h = by (number =
         let f : CarriedFacts past ch n k b = ih h in
         record { low = f.low; high = f.high; made = f.made; carrier = again f (said_sent end v past fit.1 (SaysItem (Carries ch n b)) k h).1 (list_any (is_carried_as ch n) items) refl }
 
+-- a bunch that is found is carried
 any_carried : (ch n : ℕ) (items : List Item) → list_any (is_carried_as ch n) items ≡ true → (b : Bunch) × IsIn (Carries ch n b) items
 any_carried ch n [] h = absurd (false≢true h)
 any_carried ch n (Owed x ∷ items) h = (let r = any_carried ch n items h in (r.0, inr r.1))

@@ -19,6 +19,7 @@ use Rattle.connection_laws.proofs.PartsJoin.{last_ends, middle_goes_on}
 
 -- ---- a beginning of what joins joins
 
+-- a run that joins begins with one that does
 joins_begin : (xs ys kept : List Bunch) → JoinsFrom kept (xs ++ ys) → JoinsFrom kept xs
 joins_begin [] ys kept h = tt
 joins_begin (x ∷ xs) ys kept h = (h.0, by (ends_payload x) (λ q. joins_begin xs ys [] q) (λ q. joins_begin xs ys (x ∷ kept) q) h.1)
@@ -62,6 +63,7 @@ more_than m i = by (length (message_bits m))
     by : (n : ℕ) → i + 1 < part_count n → 7000 * (i + 1) < n
     by n = cond_both (nat_le n 7000) 1 ((n + 6999) / 7000) (λ (p : ℕ). i + 1 < p → 7000 * (i + 1) < n) (λ e lt. absurd (omega arith)) (λ e lt. omega arith)
 
+-- a short message has at most ten parts
 few_parts : (m : Message) → length (message_bits m) ≤ 70000 → parts_of m ≤ 10
 few_parts m = by (length (message_bits m))
   where
@@ -76,9 +78,11 @@ no_close (Updates a class values) h = refl
 no_close (Calls a n call args) h = refl
 no_close (Gone a) h = refl
 
+-- each piece has at most 7,000 bits
 short_piece : (bits : List Bool) (i : ℕ) → length (piece_at bits i) ≤ 7000
 short_piece bits i = omega (arith, length-take 7000 (drop (7000 * i) bits))
 
+-- each piece but the last has 7,000
 full_piece : (m : Message) (i : ℕ) → i + 1 < parts_of m → length (piece_at (message_bits m) i) ≡ 7000
 full_piece m i lt = omega (arith, length-take 7000 (drop (7000 * i) (message_bits m)), length-drop (7000 * i) (message_bits m), more_than m i lt)
 

@@ -59,6 +59,7 @@ abbrev FirstKept : Bunch → List Bunch → ℕ → Type 0
 FirstKept first kept zero = kept ≡ []
 FirstKept first kept (suc i) = (b : Bunch) → first_of kept b ≡ first
 
+-- one more bunch adds its bits
 joined_more : (b : Bunch) (kept : List Bunch) → joined_bits kept b ≡ flat_map (λ (b : Bunch). b.payload) (reverse kept) ++ b.payload
 joined_more b kept =
     ap (flat_map (λ (b : Bunch). b.payload)) (reverse-append (b ∷ []) kept)

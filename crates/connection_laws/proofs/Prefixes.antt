@@ -63,6 +63,7 @@ applied_prefix past ch got g =
 abbrev pub bunches_of : (ch : ℕ) → Numbered → List Bunch
 bunches_of ch made = map (λ i. made_bunch ch (made.0 + i) made.1 i) (range_with_len 0 (parts_of made.1))
 
+-- the bunches made on each index are the parts of its messages
 abbrev IsCut : Past → Type 0
 IsCut past = (ch : ℕ) → bunches_made past ch ≡ flat_map (bunches_of ch) (messages_on past ch)
 
@@ -73,6 +74,7 @@ all_found f g a (suc n) from h =
     let e : (a + from) + 1 ≡ a + (from + 1) = omega arith in
     rw (h from (omega arith) (omega arith), e, all_found f g a n (from + 1) (λ i lo hi. h i (omega arith) (omega arith))) refl
 
+-- a message adds its parts
 made_more : (past : Past) (ch : ℕ) (m : Message) → bunches_made (after_making past ch m) ch ≡ bunches_made past ch ++ bunches_of ch (made_count past ch + 1, m)
 made_more past ch m =
     let later : Past = after_making past ch m in
@@ -87,6 +89,7 @@ made_more past ch m =
     (ap (λ (k : ℕ). filter_map f (range_with_len k (parts_of m))) first
     ∙ all_found f (λ i. made_bunch ch (made_count past ch + 1 + i) m i) (made_count past ch + 1) (parts_of m) 0 (λ i lo hi. part_made past ch m i (omega arith)))
 
+-- a message made elsewhere adds none
 made_elsewhere : (past : Past) (ch c : ℕ) (m : Message) → (c ≡ ch → ⊥) → bunches_made (after_making past c m) ch ≡ bunches_made past ch
 made_elsewhere past ch c m ne =
     ap (λ (k : ℕ). filter_map (λ n. newest_of (made_as ch n) (after_making past c m)) (range_with_len 1 k)) (made_count_elsewhere past ch c m ne)
@@ -108,6 +111,7 @@ pub listed_later : {A : Type 0} (b : Bool) (x : A) (xs : List A) → cons_option
 listed_later true x xs = refl
 listed_later false x xs = refl
 
+-- the messages after one more part
 listed_step : (past : Past) (ch c : ℕ) (m : Message) (i : ℕ) (before : Past) → Listed past ch c m i before → Listed past ch c m (suc i) (Made c (made_count past c + 1 + i) m i ∷ before)
 listed_step past ch c m zero before h =
     let n : made_count past c + 1 + 0 ≡ made_count past c + 1 = omega arith in
@@ -117,6 +121,7 @@ listed_step past ch c m (suc i) before h =
     ap (λ (t : Bool). cons_option (then_some ((c == ch) && t) (made_count past c + 1 + suc i, m)) (on_index ch before)) (ne_eqb (suc i) 0 (λ q. absurd (omega arith)))
     ∙ listed_later (c == ch) (made_count past c + 1 + suc i, m) (on_index ch before) ∙ h
 
+-- the messages after all parts
 listed_end : (past : Past) (ch c : ℕ) (m : Message) (i : ℕ) (before : Past) → 1 ≤ i → Listed past ch c m i before
     → on_index ch before ≡ cond (c == ch) ((made_count past c + 1, m) ∷ on_index ch past) (on_index ch past)
 listed_end past ch c m zero before lo h = absurd (omega arith)
@@ -128,6 +133,7 @@ messages_made past ch c m =
     listed_end past ch c m (parts_of m) (after_making past c m) (some_parts m)
     (making_keeps (Listed past ch c m) past c m refl (λ i before lt h. listed_step past ch c m i before h))
 
+-- it stays so after a message
 cut_made : (past : Past) (c : ℕ) (m : Message) → IsCut past → IsCut (after_making past c m)
 cut_made past c m h ch = elim (cases_eq c ch) [
   | inl e ↦ subst (λ (x : ℕ). bunches_made (after_making past c m) x ≡ flat_map (bunches_of x) (messages_on (after_making past c m) x)) e same
@@ -143,6 +149,7 @@ cut_made past c m h ch = elim (cases_eq c ch) [
         ∙ ap (flat_map (bunches_of c)) (sym (reverse-append ((made_count past c + 1, m) ∷ []) (on_index c past)))
         ∙ ap (λ (l : List Numbered). flat_map (bunches_of c) (reverse l)) (sym (messages_made past c c m ∙ ap (λ (b : Bool). cond b ((made_count past c + 1, m) ∷ on_index c past) (on_index c past)) (eq-eqb c c refl)))
 
+-- it stays so where bunches and messages do
 cut_like : (past later : Past) → ((ch : ℕ) → made_count later ch ≡ made_count past ch) → ((ch n : ℕ) → newest_of (made_as ch n) later ≡ newest_of (made_as ch n) past)
     → ((ch : ℕ) → on_index ch later ≡ on_index ch past) → IsCut past → IsCut later
 cut_like past later c a n h ch =

@@ -113,6 +113,7 @@ pub record After (made : ℕ → Option Bunch) (count : ℕ) (got new : List Rec
   pub more : (m : ℕ) → has got m ≡ true → has new m ≡ true
   pub here : has new n ≡ true
 
+-- a bunch of the number is found first
 as_same : (n : ℕ) (b : Bunch) (got : List Received) → newest_of (as_number n) ((n, b) ∷ got) ≡ Some b
 as_same n b got = newest_hit (as_number n) (n, b) got b (ap (λ (t : Bool). then_some t b) (eq-eqb n n refl))
 
@@ -153,6 +154,7 @@ pub record MadeFacts (ch n : ℕ) (b : Bunch) : Type 0 where
   pub channel : b.channel ≡ ch
   pub seq : b.seq ≡ n % 1024
 
+-- a bunch as it is made says its channel and number
 facts_of : (c k : ℕ) (m : Message) (i : ℕ) → MadeFacts c k (made_bunch c k m i)
 facts_of c k m i = record { reliable = refl; channel = refl; seq = refl }
 

@@ -30,19 +30,23 @@ use Rattle.connection_laws.proofs.Feeds.{feed_done}
 
 -- ---- what neither makes nor sends
 
+-- making a message sends nothing
 bytes_made : (end : End) (past : Past) (ch : ℕ) (m : Message) → sent_bytes end (after_making past ch m) ≡ sent_bytes end past
 bytes_made end past ch m = making_keeps (λ i before. sent_bytes end before ≡ sent_bytes end past) past ch m refl (λ i before lt e. e)
 
+-- hearing an entry sends nothing
 bytes_told : (end : End) (entry : Entry) (past : Past) → sent_bytes end (with_told entry past) ≡ sent_bytes end past
 bytes_told end entry (Took n es ds ∷ past) = refl
 bytes_told end entry past = refl
 
+-- handing a payload on sends nothing
 bytes_handed : (end : End) (d : Delivered) (past : Past) → sent_bytes end (with_handed d past) ≡ sent_bytes end past
 bytes_handed end d (Took n es ds ∷ past) = refl
 bytes_handed end d past = refl
 
 -- ---- a tick and a call
 
+-- each move adds to what was sent
 more_step : (end : End) (before past : Past) (move : Move) → IsQuiet move → IsRun end past × SendsMore end before past → has_ended past ≡ false → May end past move → IsRun end (after_move past move) × SendsMore end before (after_move past move)
 more_step end before past (Ticks sight) quiet h alive may = (does (Ticks sight) h.0 alive may, (h.1.0, h.1.1))
 more_step end before past (Makes ch m) quiet h alive may = (does (Makes ch m) h.0 alive may, (h.1.0, bytes_made end past ch m ∙ h.1.1))
@@ -60,11 +64,13 @@ more_step end before past (Hears entry) quiet h alive may = absurd quiet
 more_step end before past (Hands d) quiet h alive may = absurd quiet
 more_step end before past (Ends g) quiet h alive may = (does (Ends g) h.0 alive may, (h.1.0, h.1.1))
 
+-- so do moves in a row
 more_goes : (end : End) (before : Past) → Goes end (λ (past : Past). IsRun end past × SendsMore end before past)
 more_goes end before = record { is_run = λ past h. h.0; goes = more_step end before }
 
 -- ---- a datagram
 
+-- hearing entries sends nothing
 entries_send : (end : End) (bytes : List (List ℕ)) (entries : List Entry) (now : Past) → sent_bytes end now ≡ bytes → sent_bytes end (after_entries end now entries) ≡ bytes
 entries_send end bytes [] now e = e
 entries_send end bytes (entry ∷ more) now e =
@@ -77,6 +83,7 @@ entries_send end bytes (entry ∷ more) now e =
     by None q next = next (bytes_told end entry (entry_result end now entry).past ∙ q)
     by (Some cause) q next = q
 
+-- reading a datagram sends nothing
 reading_sends : (end : End) (past : Past) (r : Result Packet (ℕ × Why)) → sent_bytes end (after_reading end past r) ≡ sent_bytes end past
 reading_sends end past (Err bad) = refl
 reading_sends end past (Ok p) =
@@ -85,9 +92,11 @@ reading_sends end past (Ok p) =
 
 -- ---- events
 
+-- nothing more is no less
 nothing_more : (end : End) (past : Past) → SendsMore end past past
 nothing_more end past = ([], sym (append-nil (sent_bytes end past)))
 
+-- each event adds to what was sent
 event_sends : (end : End) (past : Past) (event : Event) → IsDone (IsRun end) past → SendsMore end past (after_event end past event)
 event_sends end past (Tick sight) h =
     (tick_runs end (λ (p : Past). IsRun end p × SendsMore end past p) (more_goes end past) past sight
@@ -104,6 +113,7 @@ got_sends end past bytes =
     cond_both (has_ended past) past (after_reading end past (Reading.packet_of end.version bytes)) (λ (later : Past). sent_bytes end later ≡ sent_bytes end past) (λ e. refl)
     (λ e. reading_sends end past (Reading.packet_of end.version bytes))
 
+-- queueing a call sends nothing
 queued_sends : (end : End) (past : Past) (a n : ℕ) (args : List Arg) (o : Option ℕ) (c : Option Data.Call) → sent_bytes end (queued_for past a n args o c) ≡ sent_bytes end past
 queued_sends end past a n args None c = refl
 queued_sends end past a n args (Some ch) None = refl
@@ -111,6 +121,7 @@ queued_sends end past a n args (Some ch) (Some call) =
     cond_both call.reliable (after_making past ch (Calls a n call args)) (Waits (Calls a n call args) ∷ past) (λ (later : Past). sent_bytes end later ≡ sent_bytes end past)
     (λ e. bytes_made end past ch (Calls a n call args)) (λ e. refl)
 
+-- answering a call sends nothing
 answered_sends : (end : End) (past : Past) (a n : ℕ) (args : List Arg) (answer : CallAnswer) → sent_bytes end (after_answer end.side past a n args answer) ≡ sent_bytes end past
 answered_sends end past a n args Queued = queued_sends end past a n args (call_channel end.side past a) (call_of end.side past a n args)
 answered_sends end past a n args Dead = refl

@@ -68,6 +68,7 @@ unmade_unarrived past h ch n lt = arrival_is past ch n ∙ by (carrier_of past c
     by None e = refl
     by (Some k) e = (let b = h ch n k e in absurd (omega (arith, b.1)))
 
+-- the bunch has not arrived
 abbrev unarrived : Past → ℕ → ℕ → Bool
 unarrived past ch n = not (has_arrived past ch n)
 
@@ -184,12 +185,14 @@ span_sum_falls past later c h =
 
 -- ---- the bounds
 
+-- spans fit where none grows
 falls_fit : (past later : Past) → filter_map channel_in later ≡ filter_map channel_in past → ((ch : ℕ) → span later ch ≤ span past ch) → SpansFit past → SpansFit later
 falls_fit past later c h s = record {
   each = λ ch. omega (arith, s.each ch, h ch);
   sum = omega (arith, s.sum, span_sum_falls past later c h);
 }
 
+-- spans fit after a message with room
 made_fit : (past : Past) → CarriesMade past → (c : ℕ) (m : Message) → parts_of m ≤ room past c → SpansFit past → SpansFit (after_making past c m)
 made_fit past h c m r s = record {
   each = λ ch. elim (cases_eq c ch) [

@@ -47,6 +47,7 @@ comes table mine theirs p me other k bytes mv tv b readable late = record {
 abbrev pub Ready : Table → Side → Player → Type 0
 Ready table side p = IsTalking table p × IsReadable table (other_side side) p
 
+-- a delivery is a packet that may come
 got_talks : (table : Table) (side : Side) (p : Player) (k : ℕ) (bytes : List ℕ) → Ready table side p → slice_get (out_at table (other_side side) p) (k - 1) ≡ Some bytes → top_of (past_at table side p) ≤ k + 8192
     → Ready table side (with_event side (Got bytes) p)
 got_talks table AtServer p k bytes h e late = (
@@ -70,6 +71,7 @@ delivered table edits side k p o = elim o [
       else after_datagram table edits side (λ verdict. Answered side p.number k (Says verdict)) bytes p)
 ]
 
+-- packets are read back after a delivery
 delivered_ready : (table : Table) (edits : Edits) (side : Side) (k : ℕ) (p : Player) → Ready table side p → (o : Option (List ℕ)) → slice_get (out_at table (other_side side) p) (k - 1) ≡ o → Ready table side (delivered table edits side k p o).0
 delivered_ready table edits side k p h None e = h
 delivered_ready table edits side k p h (Some bytes) e =
@@ -81,6 +83,7 @@ delivered_ready table edits side k p h (Some bytes) e =
 pub delivery_ready : (table : Table) (edits : Edits) (side : Side) (k : ℕ) (p : Player) → Ready table side p → Ready table side (after_delivery table edits side k p).0
 delivery_ready table edits side k p h = delivered_ready table edits side k p h (slice_get (out_at table (other_side side) p) (k - 1)) refl
 
+-- and after many
 deliveries_ready : (table : Table) (edits : Edits) (side : Side) (ks : List ℕ) (told : Reported) → Ready table side told.0 → Ready table side (fold (also_delivery table edits side) told ks).0
 deliveries_ready table edits side [] told h = h
 deliveries_ready table edits side (k ∷ ks) told h = deliveries_ready table edits side ks (also_delivery table edits side told k) (delivery_ready table edits side k told.0 h)
@@ -97,6 +100,7 @@ delivered_number table edits side k p (Some bytes) =
     cond_both (nat_lt (k + 8192) (top_of (past_at table side p))) (p, Answered side p.number k Late ∷ [])
     (after_datagram table edits side (λ verdict. Answered side p.number k (Says verdict)) bytes p) (λ (told : Reported). told.0.number ≡ p.number) (λ q. refl) (λ q. event_number side (Got bytes) p)
 
+-- deliveries leave the number of the player
 deliveries_number : (table : Table) (edits : Edits) (side : Side) (ks : List ℕ) (told : Reported) → (fold (also_delivery table edits side) told ks).0.number ≡ told.0.number
 deliveries_number table edits side [] told = refl
 deliveries_number table edits side (k ∷ ks) told =
@@ -108,17 +112,21 @@ pub record KeepsTalk (table : Table) (does : Player → Reported) : Type 0 where
   pub number : (p : Player) → (does p).0.number ≡ p.number
   pub talks : (p : Player) → ((side : Side) → IsReadable table side p) → IsTalking table p → IsTalking table (does p).0
 
+-- an event that may be heard keeps a talk
 tick_talks : (table : Table) (side : Side) (event : Event) (p : Player) → ((mine theirs : End) (me other : Past) → MayHear mine theirs me other event) → IsTalking table p → IsTalking table (with_event side event p)
 tick_talks table AtServer event p q h = left_hears event h (q (end_of table AtServer p) (end_of table AtClient p) (past_at table AtServer p) (past_at table AtClient p))
 tick_talks table AtClient event p q h = right_hears event h (q (end_of table AtClient p) (end_of table AtServer p) (past_at table AtClient p) (past_at table AtServer p))
 
+-- a tick keeps it
 tick_keeps : (table : Table) (edits : Edits) (side : Side) → KeepsTalk table (after_tick_of table edits side)
 tick_keeps table edits AtServer = record { number = λ p. refl; talks = λ p r h. tick_talks table AtServer (tick_event table edits AtServer p) p (λ mine theirs me other. tt) h }
 tick_keeps table edits AtClient = record { number = λ p. refl; talks = λ p r h. tick_talks table AtClient (tick_event table edits AtClient p) p (λ mine theirs me other. tt) h }
 
+-- a call keeps it
 call_keeps : (table : Table) (side : Side) (a n : ℕ) (args : List Arg) → KeepsTalk table (after_call_of table side a n args)
 call_keeps table side a n args = record { number = λ p. event_number side (Call a n args) p; talks = λ p r h. tick_talks table side (Call a n args) p (λ mine theirs me other. tt) h }
 
+-- a delivery keeps it
 deliver_keeps : (table : Table) (edits : Edits) (side : Side) (k : ℕ) → KeepsTalk table (after_delivery table edits side k)
 deliver_keeps table edits side k = record {
   number = λ p. delivered_number table edits side k p (slice_get (out_at table (other_side side) p) (k - 1));
@@ -135,6 +143,7 @@ pub told_number : (side : Side) (count : ℕ) (p : Player) → (with_told side c
 told_number AtServer count p = refl
 told_number AtClient count p = refl
 
+-- so do deliveries of new packets
 deliver_new_keeps : (table : Table) (edits : Edits) (side : Side) (every : ℕ) → KeepsTalk table (after_new_deliveries table edits side every)
 deliver_new_keeps table edits side every = record {
   number = λ p. deliveries_number table edits side (new p) (start_of p) ∙ told_number side (length (out_at table (other_side side) p)) p;
@@ -149,17 +158,21 @@ deliver_new_keeps table edits side every = record {
 
 -- ---- all players
 
+-- the ends of the player of that number talk
 abbrev Inv : Table → ℕ → List Player → Type 0
 Inv table n players = AllByRecursion (λ (p : Player). p.number ≡ n → IsTalking table p) players
 
+-- their packets are read back
 abbrev Reads : Table → ℕ → List Player → Type 0
 Reads table n players = AllByRecursion (λ (p : Player). p.number ≡ n → (side : Side) → IsReadable table side p) players
 
+-- it stays so where each player keeps it
 inv_all : (table : Table) (n : ℕ) (does : Player → Reported) → KeepsTalk table does → (players : List Player) → Reads table n players → Inv table n players → Inv table n (map (λ (p : Player). (does p).0) players)
 inv_all table n does k [] r h = tt
 inv_all table n does k (p ∷ players) r h =
     ((λ e. k.talks p (r.0 (sym (k.number p) ∙ e)) (h.0 (sym (k.number p) ∙ e))), inv_all table n does k players r.1 h.1)
 
+-- it stays so where one player does
 inv_one : (table : Table) (n who : ℕ) (does : Player → Reported) → KeepsTalk table does → (players : List Player) → Reads table n players → Inv table n players
     → Inv table n (map (λ (p : Player). if p.number == who then (does p).0 else p) players)
 inv_one table n who does k [] r h = tt
@@ -179,14 +192,17 @@ inv_other table n who does k ne (p ∷ players) h = (
   inv_other table n who does k ne players h.1,
 )
 
+-- it stays so when a player joins
 inv_joined : (table : Table) (n : ℕ) (before : Player → Player → Bool) (new : Player) (players : List Player) → (new.number ≡ n → IsTalking table new) → Inv table n players → Inv table n (insert_in_order before new players)
 inv_joined table n before new [] one h = (one, tt)
 inv_joined table n before new (p ∷ players) one h =
     cond_both (before p new) (p ∷ insert_in_order before new players) (new ∷ p ∷ players) (Inv table n) (λ e. (h.0, inv_joined table n before new players one h.1)) (λ e. (one, h))
 
+-- a report keeps it
 same_keeps : (table : Table) (tell : Player → List Report) → KeepsTalk table (λ (p : Player). (p, tell p))
 same_keeps table tell = record { number = λ p. refl; talks = λ p r h. h }
 
+-- each line keeps it
 line_talks : (table : Table) (n : ℕ) (story : Story) (line : Line) → forges n line ≡ false → Reads table n story.players → Inv table n story.players → Inv table n (after_line table story line).0.players
 line_talks table n story (Join player budget version) f r h =
     inv_joined table n (λ (one : Player) (two : Player). nat_lt one.number two.number) (new_player player budget version) story.players (λ e. start) h
@@ -208,6 +224,7 @@ pub all_from : {A : Type 0} (P : A → Type 0) (xs : List A) → ((x : A) (befor
 all_from P [] h = tt
 all_from P (x ∷ xs) h = (h x [] xs refl, all_from P xs (λ y before after e. h y (x ∷ before) after (ap (λ l. x ∷ l) e)))
 
+-- all lines keep it
 lines_talk : (table : Table) (n : ℕ) (lines : List Line) → AllRead table lines n → (rest some : List Line) → lines ≡ some ++ rest → list_any (forges n) rest ≡ false
     → Inv table n (story_of table some).0.players → Inv table n (story_of table lines).0.players
 lines_talk table n lines r [] some e f h = subst (λ (l : List Line). Inv table n (story_of table l).0.players) (sym (e ∙ append-nil some)) h

@@ -37,10 +37,12 @@ use Rattle.connection_laws.proofs.LinkLaws.{reads_there, reads_back}
 
 -- ---- what a packet that was sent is
 
+-- what is read of items is what they say
 recs_said : (items : List Item) → map entry_of (map rec_of items) ≡ map entry_said (map (λ (item : Item). SaysItem item) items)
 recs_said [] = refl
 recs_said (item ∷ items) = ap (λ (es : List Entry). entry_of (rec_of item) ∷ es) (recs_said items)
 
+-- what is read of a packet is what it said
 packet_said : (v : Version) (end : End) → end.version ≡ v → (past : Past) (number : ℕ) (items : List Item) → entries_in v (packet_carrying end past number items) ≡ map entry_said (all_said v past items)
 packet_said One end e past number items = recs_said items
 packet_said Two end e past number items = rw e (ap (λ (es : List Entry). Told (head_of Two past) ∷ es) (recs_said items))
@@ -81,6 +83,7 @@ pub record Stays (v : Version) (past later : Past) : Type 0 where
   pub more : last_sent past ≤ last_sent later
   pub same : (k : ℕ) → k ≤ last_sent past → said_by v later k ≡ said_by v past k
 
+-- what was said stays where packets say the same
 stays_like : (v : Version) (past later next : Past) → last_sent next ≡ last_sent later → ((k : ℕ) → said_by v next k ≡ said_by v later k) → Stays v past later → Stays v past next
 stays_like v past later next l s h = record { more = omega (arith, l, h.more); same = λ k le. s k ∙ h.same k le }
 
@@ -106,10 +109,12 @@ pub record Talks (v : Version) (mine : End) (other : Past) (R : Past → Type 0)
   pub goes : (past : Past) (move : Move) → R past → has_ended past ≡ false → May mine past move → IsFaithful v other past move → R (after_move past move)
   pub reads : (past : Past) → R past → (k : ℕ) → MayCome past other k → near (k % 16384) (pos (top_of past)) 16384 ≡ pos k
 
+-- once a part was made, the packet before was heard to its end
 abbrev WholeUpTo : Version → Past → ℕ → Past → Type 0
 WholeUpTo v other zero before = Unit {0}
 WholeUpTo v other (suc i) before = IsWhole v other before
 
+-- so it is after the whole message
 whole_end : (v : Version) (other : Past) (i : ℕ) (before : Past) → 1 ≤ i → WholeUpTo v other i before → IsWhole v other before
 whole_end v other zero before lo h = absurd (omega arith)
 whole_end v other (suc i) before lo h = h

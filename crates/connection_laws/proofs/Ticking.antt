@@ -37,6 +37,7 @@ use Rattle.connection_laws.proofs.ActorMarks.{opened_is_open}
 
 -- ---- small messages
 
+-- a Gone has one part
 gone_is_small : (a : ℕ) → parts_of (Gone a) ≡ 1
 gone_is_small a = ap (λ (b : Bool). if b then 1 else (length (message_bits (Gone a)) + 6999) / 7000) (le-leb (length (message_bits (Gone a))) 7000 short)
   where

@@ -101,6 +101,7 @@ module _ (v : Version) (end : End) (from to : Past) (run : IsRun end from) (g : 
 
 -- ---- the sender goes on
 
+-- the packet under way is as it was where it says the same
 way_from : (v : Version) (from later to : Past) → ((k : ℕ) → is_among k (taken_of to) ≡ true → said_by v later k ≡ said_by v from k) → Way v from to → Way v later to
 way_from v from later (Took k es ds ∷ past) h w =
     let e : said_by v later k ≡ said_by v from k = h k (among_here k (taken_of past) k refl) in (
@@ -178,17 +179,19 @@ core_takes v from to n g alive whole lo hi = record {
 -- ---- one more entry
 
 -- one more thing that was said was heard on an index
-pub record Hears1 (from : Past) (ch : ℕ) (got new : List Received) (s : Said) : Type 0 where
+pub record ReceivesSaid (from : Past) (ch : ℕ) (got new : List Received) (s : Said) : Type 0 where
   pub within : (n : ℕ) → has new n ≡ true → (1 ≤ n) × (n ≤ made_count from ch)
   pub same : (n : ℕ) → has new n ≡ true → newest_of (as_number n) new ≡ newest_of (made_as ch n) from
   pub more : (n : ℕ) → has got n ≡ true → has new n ≡ true
   pub here : (n : ℕ) (b : Bunch) → s ≡ SaysItem (Carries ch n b) → has new n ≡ true
 
-nothing_new : (v : Version) (from to : Past) (g : Transfers v from to) (ch : ℕ) (s : Said) → ((n : ℕ) (b : Bunch) → s ≡ SaysItem (Carries ch n b) → ⊥) → Hears1 from ch (received_on to ch) (received_on to ch) s
+-- what is no bunch of the index receives nothing there
+nothing_new : (v : Version) (from to : Past) (g : Transfers v from to) (ch : ℕ) (s : Said) → ((n : ℕ) (b : Bunch) → s ≡ SaysItem (Carries ch n b) → ⊥) → ReceivesSaid from ch (received_on to ch) (received_on to ch) s
 nothing_new v from to g ch s never = record { within = g.within ch; same = g.same ch; more = λ n h. h; here = λ n b e. absurd (never n b e) }
 
+-- an entry that is heard receives what it says
 entry_heard : (v : Version) (end : End) (from to : Past) → IsRun end from → Transfers v from to → (k : ℕ) → ((x : ℕ) → is_among x (done_of to) ≡ true → x < k)
-    → (s : Said) → IsIn s (said_by v from k) → (ch : ℕ) → Hears1 from ch (received_on to ch) (with_entry (received_on to ch) ch (entry_said s)) s
+    → (s : Said) → IsIn s (said_by v from k) → (ch : ℕ) → ReceivesSaid from ch (received_on to ch) (with_entry (received_on to ch) ch (entry_said s)) s
 entry_heard v end from to run g k new (SaysHead head) q ch = nothing_new v from to g ch (SaysHead head) (λ n b e. absurd (no n b e))
   where
     no : (n : ℕ) (b : Bunch) → SaysHead head ≡ SaysItem (Carries ch n b) → ⊥
@@ -198,7 +201,7 @@ entry_heard v end from to run g k new (SaysItem (Owed x)) q ch = nothing_new v f
     no : (n : ℕ) (b : Bunch) → SaysItem (Owed x) ≡ SaysItem (Carries ch n b) → ⊥
     no n b e = cc
 entry_heard v end from to run g k new (SaysItem (Loose m b)) q ch =
-    subst (λ (got : List Received). Hears1 from ch (received_on to ch) got (SaysItem (Loose m b)))
+    subst (λ (got : List Received). ReceivesSaid from ch (received_on to ch) got (SaysItem (Loose m b)))
     (sym (ap (λ (t : Bool). cond (t && (b.channel == ch)) (with_bunch (received_on to ch) b) (received_on to ch)) (loose_unreliable end v from (deeds_fit end from run) m b k q)))
     (nothing_new v from to g ch (SaysItem (Loose m b)) (λ n c e. absurd (no n c e)))
   where
@@ -221,13 +224,13 @@ entry_heard v end from to run g k new (SaysItem (Carries c n b)) q ch =
     result : (t : Bool) → (b.reliable && (b.channel == ch)) ≡ t → with_entry (received_on to ch) ch (Heard b) ≡ cond t (with_bunch (received_on to ch) b) (received_on to ch)
     result t e = ap (λ (x : Bool). cond x (with_bunch (received_on to ch) b) (received_on to ch)) e
 
-    same : c ≡ ch → CarriedFacts from c n k b → MadeFacts c n b → Hears1 from ch (received_on to ch) (with_entry (received_on to ch) ch (Heard b)) (SaysItem (Carries c n b))
+    same : c ≡ ch → CarriedFacts from c n k b → MadeFacts c n b → ReceivesSaid from ch (received_on to ch) (with_entry (received_on to ch) ch (Heard b)) (SaysItem (Carries c n b))
     same e f m =
         let span : InSpan (made_count from ch) n = subst (λ (x : ℕ). InSpan (made_count from x) n) e (in_span_of v end from to run g k new c n b q) in
         let made : newest_of (made_as ch n) from ≡ Some b = subst (λ (x : ℕ). newest_of (made_as x n) from ≡ Some b) e f.made in
         let after : After (λ n. newest_of (made_as ch n) from) (made_count from ch) (received_on to ch) (with_bunch (received_on to ch) b) n =
         received_after (λ n. newest_of (made_as ch n) from) (made_count from ch) (received_on to ch) b n (good v end from to run g ch) span m.seq made in
-        subst (λ (got : List Received). Hears1 from ch (received_on to ch) got (SaysItem (Carries c n b)))
+        subst (λ (got : List Received). ReceivesSaid from ch (received_on to ch) got (SaysItem (Carries c n b)))
         (sym (result true (both b.reliable (b.channel == ch) m.reliable (eq-eqb b.channel ch (m.channel ∙ e)))))
         (record {
           within = after.good.within;
@@ -239,9 +242,9 @@ entry_heard v end from to run g k new (SaysItem (Carries c n b)) q ch =
         both : (x y : Bool) → x ≡ true → y ≡ true → (x && y) ≡ true
         both x y p q = grind arith
 
-    other : (c ≡ ch → ⊥) → MadeFacts c n b → Hears1 from ch (received_on to ch) (with_entry (received_on to ch) ch (Heard b)) (SaysItem (Carries c n b))
+    other : (c ≡ ch → ⊥) → MadeFacts c n b → ReceivesSaid from ch (received_on to ch) (with_entry (received_on to ch) ch (Heard b)) (SaysItem (Carries c n b))
     other ne m =
-        subst (λ (got : List Received). Hears1 from ch (received_on to ch) got (SaysItem (Carries c n b)))
+        subst (λ (got : List Received). ReceivesSaid from ch (received_on to ch) got (SaysItem (Carries c n b)))
         (sym (result false (second b.reliable (b.channel == ch) (ne_eqb b.channel ch (λ r. ne (sym m.channel ∙ r))))))
         (nothing_new v from to g ch (SaysItem (Carries c n b)) (λ y d r. ne (is_channel y d r)))
       where
@@ -264,8 +267,8 @@ core_hears v end from k es ds past entry run g fresh next =
     let long : length es ≡ length before = ap length next.4 ∙ length-reverse (map entry_said before) ∙ length-map before entry_said in
     let taken = take_next (said_by v from k) before s next.2 (length es) next.3 long in
     let here : IsIn s (said_by v from k) = subst (IsIn s) (sym next.3) (in_middle s before next.2) in
-    let heard : (ch : ℕ) → Hears1 from ch (received_on (Took k es ds ∷ past) ch) (received_on (Took k (entry ∷ es) ds ∷ past) ch) s =
-    λ ch. subst (λ (x : Entry). Hears1 from ch (received_on (Took k es ds ∷ past) ch) (with_entry (received_on (Took k es ds ∷ past) ch) ch x) s) (sym next.5)
+    let heard : (ch : ℕ) → ReceivesSaid from ch (received_on (Took k es ds ∷ past) ch) (received_on (Took k (entry ∷ es) ds ∷ past) ch) s =
+    λ ch. subst (λ (x : Entry). ReceivesSaid from ch (received_on (Took k es ds ∷ past) ch) (with_entry (received_on (Took k es ds ∷ past) ch) ch x) s) (sym next.5)
     (entry_heard v end from (Took k es ds ∷ past) run g k (λ x h. (let le : x ≤ top_of past = among_most (taken_of past) x h in omega arith)) s here ch) in
     record {
       sent = g.sent;

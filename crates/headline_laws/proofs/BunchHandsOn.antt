@@ -37,23 +37,28 @@ abbrev pub rest_of : (ch : ℕ) → List Numbered → (i : ℕ) → List Bunch
 rest_of ch [] i = []
 rest_of ch (made ∷ ms) i = bunches_from ch made.0 made.1 i (parts_of made.1 - i) ++ all_bunches ch ms
 
+-- all is left of messages of which nothing has begun
 rest_zero : (ch : ℕ) (ms : List Numbered) → rest_of ch ms 0 ≡ all_bunches ch ms
 rest_zero ch [] = refl
 rest_zero ch (made ∷ ms) = (let e : parts_of made.1 - 0 ≡ parts_of made.1 = omega arith in ap (λ (n : ℕ). bunches_from ch made.0 made.1 0 n ++ all_bunches ch ms) e)
 
+-- nothing has begun at first
 begun_zero : (ch : ℕ) (ms : List Numbered) → HasBegun ch ms 0 []
 begun_zero ch [] = refl
 begun_zero ch (made ∷ ms) = (omega (arith, some_parts made.1), refl)
 
+-- nothing is kept at first
 kept_zero : (ch : ℕ) (ms : List Numbered) → kept_here ch ms 0 ≡ []
 kept_zero ch [] = refl
 kept_zero ch (made ∷ ms) = refl
 
+-- the parts from one place are those up to another, and the rest
 parts_split : (ch first : ℕ) (m : Message) (i n : ℕ) → bunches_from ch first m 0 (i + n) ≡ bunches_from ch first m 0 i ++ bunches_from ch first m i n
 parts_split ch first m i n =
     ap (map (λ j. made_bunch ch (first + j) m j)) (range_split 0 i n) ∙ map-append (λ j. made_bunch ch (first + j) m j) (range_with_len 0 i) (range_with_len (0 + i) n)
     ∙ (let e : 0 + i ≡ i = omega arith in ap (λ (k : ℕ). bunches_from ch first m 0 i ++ bunches_from ch first m k n) e)
 
+-- so many parts are so many bunches
 from_length : (ch first : ℕ) (m : Message) (i n : ℕ) → length (bunches_from ch first m i n) ≡ n
 from_length ch first m i n = map_length (λ j. made_bunch ch (first + j) m j) (range_with_len i n) ∙ range_length n i
 
@@ -73,6 +78,7 @@ rest_after ch (made ∷ ms) i rest more b e =
 
 -- ---- whole messages among bunches
 
+-- parts before the last one make nothing whole
 none_whole : (ch first : ℕ) (m : Message) (n i : ℕ) (kept : List Bunch) → i + n < parts_of m → wholes_from kept (bunches_from ch first m i n) ≡ []
 none_whole ch first m zero i kept lt = refl
 none_whole ch first m (suc n) i kept lt =
@@ -80,6 +86,7 @@ none_whole ch first m (suc n) i kept lt =
     ap (λ (b : Bool). cond b ((first_of kept (made_bunch ch (first + i) m i), joined_bits kept (made_bunch ch (first + i) m i)) ∷ wholes_from [] (bunches_from ch first m (i + 1) n)) (wholes_from (made_bunch ch (first + i) m i ∷ kept) (bunches_from ch first m (i + 1) n))) e
     ∙ none_whole ch first m n (i + 1) (made_bunch ch (first + i) m i ∷ kept) (omega (arith, lt))
 
+-- what has begun makes nothing whole
 begun_whole : (ch : ℕ) (later : List Numbered) (i : ℕ) (rest : List Bunch) → HasBegun ch later i rest → wholes_from [] rest ≡ []
 begun_whole ch [] i rest b = ap (wholes_from []) b
 begun_whole ch (made ∷ later) i rest b = ap (wholes_from []) b.1 ∙ none_whole ch made.0 made.1 i 0 [] (omega (arith, b.0))

@@ -41,6 +41,7 @@ pub record CameIn (v : Version) (from to : Past) (ch n : ℕ) : Type 0 where
 abbrev pub CameFrom : Version → (from to : Past) → Type 0
 CameFrom v from to = (ch n : ℕ) → has (received_on to ch) n ≡ true → CameIn v from to ch n
 
+-- it stays so where the same is received and taken
 came_like : (v : Version) (from to later : Past) → ((ch : ℕ) → received_on later ch ≡ received_on to ch) → taken_of later ≡ taken_of to → CameFrom v from to → CameFrom v from later
 came_like v from to later r t h ch n q =
     let c = h ch n (ap (λ (got : List Received). has got n) (sym (r ch)) ∙ q) in
@@ -125,6 +126,7 @@ module _ (v : Version) (left right : End) (lv : left.version ≡ v) (rv : right.
 
 -- ---- made before the packet was sent
 
+-- a packet has the number after those sent before it
 sent_later : (end : End) (past : Past) → IsRun end past → (later : List Deed) (k t : ℕ) (items : List Item) (s : Past) → past ≡ later ++ Sent k t items ∷ s → k ≡ last_sent s + 1
 sent_later end past run later k t items s e = (each_at (FitsBefore end) later (Sent k t items) s (subst (EachDeed (FitsBefore end)) e (deeds_fit end past run))).0
 

@@ -45,6 +45,7 @@ index_fits end past a ch f e =
     let m = index_marked past a ch e in
     used_fits end past ch f (subst (λ (k : ℕ). is_among k (filter_map channel_in past) ≡ true) m.2 (mark_used a past m.0 m.1))
 
+-- what was handed on was on channels that can be spelled
 delivered_fits : (end : End) (past : Past) → PastFits end past → AllByRecursion (PlaceFits end.version) (delivered_of past)
 delivered_fits end [] f = tt
 delivered_fits end (Ticked t s ∷ past) f = delivered_fits end past f.1
@@ -54,6 +55,7 @@ delivered_fits end (Sent n t items ∷ past) f = delivered_fits end past f.1
 delivered_fits end (Took n es ds ∷ past) f = all_append (PlaceFits end.version) ds (delivered_of past) f.0.1 (delivered_fits end past f.1)
 delivered_fits end (Ended g ∷ past) f = delivered_fits end past f.1
 
+-- the channel that a payload says is its own
 said_is : (a : ℕ) (d : Delivered) (m : Message) (ch : ℕ) → d.message ≡ m → channel_said a d ≡ Some (Some ch) → d.channel ≡ ch
 said_is a d (Opens exports actor c values) ch m h = by (actor == a) (rw m at h)
   where
@@ -69,6 +71,7 @@ said_is a d (Updates actor c values) ch m h = absurd (let no : (let o : Option (
 said_is a d (Calls actor n call args) ch m h = absurd (let no : (let o : Option (Option ℕ) = None in o) ≡ Some (Some ch) = rw m at h in cc)
 said_is a d (Gone actor) ch m h = absurd (let no : (let o : Option (Option ℕ) = None in o) ≡ Some (Some ch) = rw m at h in cc)
 
+-- a copy's channel can be spelled
 copy_fits_in : (v : Version) (a ch : ℕ) (ds : List Delivered) → AllByRecursion (PlaceFits v) ds → unwrap_or (newest_of (channel_said a) (items_since (removes a) ds)) None ≡ Some ch → ch < channel_limit v
 copy_fits_in v a ch [] f e = absurd (let no : (let o : Option ℕ = None in o) ≡ Some ch = e in cc)
 copy_fits_in v a ch (d ∷ ds) f e = by_removed (removes a d) e (λ q. copy_fits_in v a ch ds f.1 q)
@@ -94,6 +97,7 @@ call_fits end AtServer past a ch f e = by (is_opened (state_of past a)) e
 
 -- ---- what is due, and what waits
 
+-- a bunch that was made fits
 found_fits : (end : End) (past : Past) (ch n : ℕ) (b : Bunch) → PastFits end past → newest_of (made_as ch n) past ≡ Some b → BunchFits end.version b
 found_fits end [] ch n b f e = absurd (let no : (let o : Option Bunch = None in o) ≡ Some b = e in cc)
 found_fits end (Made c k m i ∷ past) ch n b f e = by ((c == ch) && (k == n)) e (λ q. found_fits end past ch n b f.1 q)
@@ -110,6 +114,7 @@ found_fits end (Sent k t items ∷ past) ch n b f e = found_fits end past ch n b
 found_fits end (Took k es ds ∷ past) ch n b f e = found_fits end past ch n b f.1 e
 found_fits end (Ended g ∷ past) ch n b f e = found_fits end past ch n b f.1 e
 
+-- bunches that are carried fit
 carrying_fits : (end : End) (past : Past) (ch : ℕ) → PastFits end past → (ns : List ℕ) → AllByRecursion (ItemFits end.version) (filter_map (carrying_item past ch) ns)
 carrying_fits end past ch f [] = tt
 carrying_fits end past ch f (n ∷ ns) = by (newest_of (made_as ch n) past) refl (carrying_fits end past ch f ns)
@@ -128,6 +133,7 @@ due_fits end past f =
 abbrev pub IsShort : Message → Type 0
 IsShort m = length (message_bits m) ≤ 7000
 
+-- calls left waiting since a tick are short
 since_short : (end : End) (past : Past) → PastFits end past → AllByRecursion IsShort (filter_map waits_in (deeds_since_tick past))
 since_short end [] f = tt
 since_short end (Ticked t s ∷ past) f = tt
@@ -183,6 +189,7 @@ back_each_once (x ∷ xs) n h = elim (cases_Bool (is_among x xs)) [
   | inr e ↦ elim (among_cons x (each_once xs) n (rw e at h)) [ inl q ↦ among_here x xs n q | inr q ↦ among_there x xs n (back_each_once xs n q) ]
 ]
 
+-- an opened actor was spawned
 opened_spawned : (end : End) (past : Past) (a : ℕ) → PastFits end past → is_among a (filter_map opened_in past) ≡ true → IsSpawned a
 opened_spawned end [] a f e = absurd (false≢true e)
 opened_spawned end (Made c n (Opens exports actor class values) i ∷ past) a f e = elim (among_cons actor (filter_map opened_in past) a e) [
@@ -211,6 +218,7 @@ holder past ch (a ∷ actors) h = elim (or_cases (holds past a ch) (list_any (λ
 abbrev held_by : Past → (count from : ℕ) → List ℕ
 held_by past count from = filter_map (λ k. index_of past (2 * k)) (range_with_len from count)
 
+-- the indexes held by so many actors are at most so many
 few_held : (past : Past) (count from : ℕ) → length (held_by past count from) ≤ count
 few_held past zero from = omega arith
 few_held past (suc count) from = by (index_of past (2 * from)) (few_held past count (from + 1))
@@ -219,6 +227,7 @@ few_held past (suc count) from = by (index_of past (2 * from)) (few_held past co
     by None h = omega (arith, h)
     by (Some ch) h = omega (arith, h)
 
+-- an index that an actor holds is among them
 held_among : (past : Past) (ch k : ℕ) → index_of past (2 * k) ≡ Some ch → (count from : ℕ) → from ≤ k → k < from + count → is_among ch (held_by past count from) ≡ true
 held_among past ch k e zero from lo hi = absurd (omega (arith, lo, hi))
 held_among past ch k e (suc count) from lo hi = elim (cases_Bool (from == k)) [
@@ -242,6 +251,7 @@ held_among past ch k e (suc count) from lo hi = elim (cases_Bool (from == k)) [
 abbrev spanned : Past → List ℕ → List ℕ
 spanned past chs = filter (λ ch. nat_lt 0 (span past ch)) chs
 
+-- the indexes with a span are at most the sum of spans
 few_spanned : (past : Past) (chs : List ℕ) → length (spanned past chs) ≤ sum_by (span past) chs
 few_spanned past [] = omega arith
 few_spanned past (ch ∷ chs) = by (nat_lt 0 (span past ch)) refl (few_spanned past chs)
@@ -250,6 +260,7 @@ few_spanned past (ch ∷ chs) = by (nat_lt 0 (span past ch)) refl (few_spanned p
     by true e h = (let some : 0 < span past ch = ltb-true 0 (span past ch) e in omega (arith, some, h, sum_by-cons (span past) ch chs))
     by false e h = omega (arith, h, sum_by-cons (span past) ch chs)
 
+-- an index with a span is among them
 spanned_among : (past : Past) (chs : List ℕ) (n : ℕ) → is_among n chs ≡ true → nat_lt 0 (span past n) ≡ true → is_among n (spanned past chs) ≡ true
 spanned_among past [] n h e = h
 spanned_among past (ch ∷ chs) n h e = elim (among_cons ch chs n h) [

@@ -15,9 +15,11 @@ use Rattle.payload_laws.proofs.CopiesAfter.{channel_none, closes_removes, gone_r
 use Rattle.payload_laws.proofs.CopyOn.{copy_holds, none_holds}
 use Rattle.headline_laws.specs.Agree.{applied_in, user_at, CopiesAgree, ComesInTurn}
 
+-- nothing is not something
 none_some : (n : ℕ) → (let o : Option ℕ = None in o) ≡ Some n → ⊥
 none_some n e = cc
 
+-- what is found is one
 some_is : (x y : ℕ) → (let o : Option ℕ = Some x in o) ≡ Some y → x ≡ y
 some_is x y e = cc
 

@@ -33,6 +33,7 @@ Low v b = b.channel < channel_limit v
 
 -- ---- what was received
 
+-- what was heard was on channels that can be spelled
 entries_fit : (end : End) (past : Past) → PastFits end past → AllByRecursion (EntryFits end.version) (entries_of past)
 entries_fit end [] f = tt
 entries_fit end (Ticked t s ∷ past) f = entries_fit end past f.1
@@ -42,14 +43,17 @@ entries_fit end (Sent n t items ∷ past) f = entries_fit end past f.1
 entries_fit end (Took n es ds ∷ past) f = all_append (EntryFits end.version) es (entries_of past) f.0.0 (entries_fit end past f.1)
 entries_fit end (Ended g ∷ past) f = entries_fit end past f.1
 
+-- so is what was received with one more
 offer_low : (v : Version) (got : List Received) (b : Bunch) (offer : Offer) → Low v b → AllByRecursion (λ (r : Received). Low v r.1) got → AllByRecursion (λ (r : Received). Low v r.1) (with_offer got b offer)
 offer_low v got b Repeat l h = h
 offer_low v got b Ready l h = (l, h)
 offer_low v got b (Held n) l h = (l, h)
 
+-- so is one more bunch
 bunch_low : (v : Version) (got : List Received) (b : Bunch) → Low v b → AllByRecursion (λ (r : Received). Low v r.1) got → AllByRecursion (λ (r : Received). Low v r.1) (with_bunch got b)
 bunch_low v got b l h = offer_low v got b (offer_of got (number_as got b)) l h
 
+-- so is what a packet received
 received_low : (v : Version) (es : List Entry) (ch : ℕ) → AllByRecursion (EntryFits v) es → AllByRecursion (λ (r : Received). Low v r.1) (received_by es ch)
 received_low v [] ch f = tt
 received_low v (Told head ∷ es) ch f = received_low v es ch f.1
@@ -58,6 +62,7 @@ received_low v (Heard b ∷ es) ch f =
     cond_both (b.reliable && b.channel == ch) (with_bunch (received_by es ch) b) (received_by es ch) (AllByRecursion (λ (r : Received). Low v r.1))
     (λ e. bunch_low v (received_by es ch) b f.0 (received_low v es ch f.1)) (λ e. received_low v es ch f.1)
 
+-- so is a bunch that is found
 found_low : (v : Version) (n : ℕ) (got : List Received) (b : Bunch) → AllByRecursion (λ (r : Received). Low v r.1) got → newest_of (as_number n) got ≡ Some b → Low v b
 found_low v n [] b h e = absurd (let no : (let o : Option Bunch = None in o) ≡ Some b = e in cc)
 found_low v n (r ∷ got) b h e = by (r.0 == n) e (λ q. found_low v n got b h.1 q)
@@ -69,6 +74,7 @@ found_low v n (r ∷ got) b h e = by (r.0 == n) e (λ q. found_low v n got b h.1
     by true q ih = subst (Low v) (same r.1 b q) h.0
     by false q ih = ih q
 
+-- so is the run
 run_low : (v : Version) (got : List Received) → AllByRecursion (λ (r : Received). Low v r.1) got → (count from : ℕ) → AllByRecursion (Low v) (run_of got from count)
 run_low v got h zero from = tt
 run_low v got h (suc count) from = by (newest_of (as_number from) got) refl (run_low v got h count (from + 1))
@@ -77,19 +83,23 @@ run_low v got h (suc count) from = by (newest_of (as_number from) got) refl (run
     by None q all = all
     by (Some b) q all = (found_low v from got b h q, all)
 
+-- what holds of all holds of the newest part
 since_low : {A : Type 0} (P : A → Type 0) (test : A → Bool) (xs : List A) → AllByRecursion P xs → AllByRecursion P (items_since test xs)
 since_low P test [] h = tt
 since_low P test (x ∷ xs) h = cond_both (test x) [] (x ∷ items_since test xs) (AllByRecursion P) (λ e. tt) (λ e. (h.0, since_low P test xs h.1))
 
+-- so are the bunches kept
 kept_low : (v : Version) (applied : List Bunch) → AllByRecursion (Low v) applied → AllByRecursion (Low v) (kept_of applied)
 kept_low v applied h = since_low (Low v) ends_payload (reverse applied) (all_reverse (Low v) applied h)
 
+-- so is the first one
 first_low : (v : Version) (kept : List Bunch) (b : Bunch) → AllByRecursion (Low v) kept → Low v b → Low v (first_of kept b)
 first_low v [] b h l = l
 first_low v (k ∷ kept) b h l = first_low v kept k h.1 h.0
 
 -- ---- what is handed on
 
+-- so is a payload
 payload_low : (end : End) (past : Past) (first : Bunch) (bits : List Bool) (d : Delivered) (r : Result (Message × List Bool) (Fault (Option Cause))) → payload_at end past first bits ≡ r → Low end.version first → payload_result end past first bits ≡ Ok (Some d) → PlaceFits end.version d
 payload_low end past first bits d (Ok got) e l h =
     let some : ◌≡◌ {A = Result (Option Delivered) Cause} (Ok (Some (delivery_of end past first got.0))) (Ok (Some d)) = rw (payload_result, e) at h in
@@ -99,6 +109,7 @@ payload_low end past first bits d (Err fault) e l h =
     let none : ◌≡◌ {A = Result (Option Delivered) Cause} (Err (payload_cause first.channel (length bits) fault)) (Ok (Some d)) = rw (payload_result, e) at h in
     absurd (cc)
 
+-- what a bunch says is by these tests
 result_by : (end : End) (past : Past) (kept : List Bunch) (b : Bunch) (d : Delivered) (l : Bool) (o : Option PartWhy) (e : Bool) → lacks_copy end.side past kept b ≡ l → part_fault kept b b.part ≡ o → ends_payload b ≡ e
     → AllByRecursion (Low end.version) kept → Low end.version b → bunch_result end past kept b ≡ Ok (Some d) → PlaceFits end.version d
 result_by end past kept b d true o e p q r k m h = let none : ◌≡◌ {A = Result (Option Delivered) Cause} (Err (BadChannel b.channel)) (Ok (Some d)) = rw p at h in absurd (cc)
@@ -110,15 +121,19 @@ result_by end past kept b d false None true p q r k m h =
     let read : payload_result end past (first_of before b) (joined_bits before b) ≡ Ok (Some d) = rw (p, q, r) at h in
     payload_low end past (first_of before b) (joined_bits before b) d (payload_at end past (first_of before b) (joined_bits before b)) refl (first_low end.version before b low m) read
 
+-- so is what a bunch hands on
 result_low : (end : End) (past : Past) (kept : List Bunch) (b : Bunch) (d : Delivered) → AllByRecursion (Low end.version) kept → Low end.version b → bunch_result end past kept b ≡ Ok (Some d) → PlaceFits end.version d
 result_low end past kept b d k l h = result_by end past kept b d (lacks_copy end.side past kept b) (part_fault kept b b.part) (ends_payload b) refl refl refl k l h
 
+-- a past fits after it is handed on
 handed_fits : (end : End) (d : Delivered) (past : Past) → PlaceFits end.version d → PastFits end past → PastFits end (with_handed d past)
 handed_fits end d past p f = handed_keeps (PastFits end) d past f (λ n es ds before h. ((h.0.0, (p, h.0.1)), h.1))
 
+-- a past fits after it is heard
 told_fits : (end : End) (entry : Entry) (past : Past) → EntryFits end.version entry → PastFits end past → PastFits end (with_told entry past)
 told_fits end entry past p f = told_keeps (PastFits end) entry past f (λ n es ds before h. (((p, h.0.0), h.0.1), h.1))
 
+-- a past fits after bunches
 bunches_fit : (end : End) (past : Past) (kept bunches : List Bunch) → AllByRecursion (Low end.version) kept → AllByRecursion (Low end.version) bunches → PastFits end past → PastFits end (bunches_result end past kept bunches).past
 bunches_fit end past kept [] k l f = f
 bunches_fit end past kept (b ∷ bunches) k l f =
@@ -135,6 +150,7 @@ bunches_fit end past kept (b ∷ bunches) k l f =
     by (Ok None) e g h = g
     by (Ok (Some d)) e g h = h d (result_low end past kept b d k l.0 e)
 
+-- a past fits after a bunch is heard
 heard_fits : (end : End) (past : Past) (b : Bunch) → Low end.version b → PastFits end past → PastFits end (bunch_heard end past b).past
 heard_fits end past b l f = elim (cases_Bool (is_misplaced end.side b)) [
   | inl e ↦ rw e f
@@ -159,6 +175,7 @@ heard_fits end past b l f = elim (cases_Bool (is_misplaced end.side b)) [
         (run_low end.version (with_bunch (received_on past b.channel) b) (bunch_low end.version (received_on past b.channel) b l low)
         (next_of (with_bunch (received_on past b.channel) b) - next_of (received_on past b.channel)) (next_of (received_on past b.channel))) f
 
+-- a past fits after an entry
 entry_fits : (end : End) (past : Past) (entry : Entry) → EntryFits end.version entry → PastFits end past → PastFits end (entry_result end past entry).past
 entry_fits end past (Told head) e f = f
 entry_fits end past (Acked n) e f = f
@@ -184,6 +201,7 @@ read_last false true c r s t x p h = absurd (cc)
 read_last false false true r s t x p h = absurd (cc)
 read_last false false false r s t x p h = h
 
+-- what is read as content is read as a packet
 read_where : (version : Version) (content : List Bool) (p : Packet) (o : Result (Packet × List Bool) (Fault Why)) → packet_at version content ≡ o → content_read version content ≡ Ok p → (rest : List Bool) × (packet_at version content ≡ Ok (p, rest))
 read_where version content p (Err fault) e h = let none : ◌≡◌ {A = Result Packet Refusal} (Err (place_of (length content) fault, why_of fault)) (Ok p) = rw (content_read, e) at h in absurd (cc)
 read_where version content p (Ok got) e h =
@@ -191,15 +209,18 @@ read_where version content p (Ok got) e h =
     let same : got.0 ≡ p = cc in
     (got.1, e ∙ ap (λ (p : Packet). Ok (p, got.1)) same)
 
+-- what is read keeps the rules of records
 recs_of : (version : Version) (bytes : List ℕ) (p : Packet) → packet_of version bytes ≡ Ok p → list_all (λ rec. is_rec version rec) p.recs ≡ true
 recs_of version bytes p h =
     let last = read_last (length bytes == 0) (nat_lt 1024 (length bytes)) (slice_index_or bytes (length bytes - 1) 0 == 0) (0, Empty) (8192, TooLong) (8 * (length bytes - 1), NoEnd) (content_read version (content_of bytes)) p h in
     let read = read_where version (content_of bytes) p (packet_at version (content_of bytes)) refl last in
     (content_spelled version (content_of bytes) p read.0 read.1).recs
 
+-- a bunch that keeps its rules is on such a channel
 low_of : (v : Version) (b : Bunch) → is_bunch v b ≡ true → Low v b
 low_of v b h = (rules_of v b h).channel
 
+-- so are records
 recs_low : (v : Version) (recs : List Rec) → list_all (λ rec. is_rec v rec) recs ≡ true → AllByRecursion (EntryFits v) (map entry_of recs)
 recs_low v [] h = tt
 recs_low v (Ack n ∷ recs) h = (tt, recs_low v recs (and_parts (is_rec v (Ack n)) (list_all (λ rec. is_rec v rec) recs) h).1)
@@ -211,10 +232,12 @@ recs_low v (Sends b ∷ recs) h =
     is One q = q
     is Two q = q
 
+-- so are the entries of a packet
 in_low : (w v : Version) (p : Packet) → AllByRecursion (EntryFits v) (map entry_of p.recs) → AllByRecursion (EntryFits v) (entries_in w p)
 in_low One v p h = h
 in_low Two v p h = (tt, h)
 
+-- a past fits after what is read
 read_fits : (end : End) (past : Past) (bytes : List ℕ) (r : Result Packet (ℕ × Why)) → packet_of end.version bytes ≡ r → PastFits end past → PastFits end (after_reading end past r)
 read_fits end past bytes (Err bad) e f = f
 read_fits end past bytes (Ok p) e f =

@@ -74,6 +74,7 @@ IsStill (Hears entry) = ⊥
 IsStill (Hands d) = ⊥
 IsStill (Ends ending) = Unit {0}
 
+-- such a move hands nothing on
 delivered_still : (past : Past) (move : Move) → IsStill move → delivered_of (after_move past move) ≡ delivered_of past
 delivered_still past (Ticks sight) s = refl
 delivered_still past (Makes ch m) s = made_ignored_all handed_in (λ c n m i. refl) past ch m
@@ -84,6 +85,7 @@ delivered_still past (Hears entry) s = absurd s
 delivered_still past (Hands d) s = absurd s
 delivered_still past (Ends g) s = refl
 
+-- it hears nothing
 entries_still : (past : Past) (move : Move) → IsStill move → entries_of (after_move past move) ≡ entries_of past
 entries_still past (Ticks sight) s = refl
 entries_still past (Makes ch m) s = made_ignored_all entries_in (λ c n m i. refl) past ch m
@@ -94,9 +96,11 @@ entries_still past (Hears entry) s = absurd s
 entries_still past (Hands d) s = absurd s
 entries_still past (Ends g) s = refl
 
+-- it receives nothing whole
 wholes_still : (past : Past) (move : Move) → IsStill move → (ch : ℕ) → wholes_of (after_move past move) ch ≡ wholes_of past ch
 wholes_still past move s ch = ap (λ (es : List Feed.Entry). wholes_from [] (applied_of (received_by es ch))) (entries_still past move s)
 
+-- a quiet move is such a one
 quiet_still : (move : Move) → IsQuiet move → IsStill move
 quiet_still (Ticks sight) q = tt
 quiet_still (Makes ch m) q = tt
@@ -107,6 +111,7 @@ quiet_still (Hears entry) q = q
 quiet_still (Hands d) q = q
 quiet_still (Ends g) q = tt
 
+-- a quiet move sees nothing
 sights_quiet : (past : Past) (move : Move) → IsQuiet move → sights_of (after_move past move) ≡ sights_of past
 sights_quiet past (Ticks sight) q = absurd q
 sights_quiet past (Makes ch m) q = made_ignored sight_in (λ c n m i. refl) past ch m

@@ -41,15 +41,19 @@ use Rattle.protocol_model.specs.Payload.{Calls, Closes, Gone, Message, Opens, Up
 
 -- ---- lists of reports
 
+-- each report is fair
 abbrev AllFair : ℕ → List Report → Type 0
 AllFair n reports = list_all (is_fair n) reports ≡ true
 
+-- two lists of fair reports
 fair_append : (n : ℕ) (xs ys : List Report) → AllFair n xs → AllFair n ys → AllFair n (xs ++ ys)
 fair_append n xs ys a b = list_all-append (is_fair n) xs ys ∙ and_from (list_all (is_fair n) xs) (list_all (is_fair n) ys) a b
 
+-- one more fair report
 fair_cons : (n : ℕ) (x : Report) (xs : List Report) → is_fair n x ≡ true → AllFair n xs → AllFair n (x ∷ xs)
 fair_cons n x xs a b = and_from (is_fair n x) (list_all (is_fair n) xs) a b
 
+-- what is found is fair
 fair_found : {A : Type 0} (n : ℕ) (f : A → Option Report) → ((x : A) (r : Report) → f x ≡ Some r → is_fair n r ≡ true) → (xs : List A) → AllFair n (filter_map f xs)
 fair_found n f h [] = refl
 fair_found n f h (x ∷ xs) = by (f x) refl (fair_found n f h xs)
@@ -58,15 +62,18 @@ fair_found n f h (x ∷ xs) = by (f x) refl (fair_found n f h xs)
     by None e q = q
     by (Some r) e q = fair_cons n r (filter_map f xs) (h x r e) q
 
+-- the reports of each player are fair
 fair_each : (n : ℕ) (f : Player → List Report) → (ps : List Player) → AllByRecursion (λ (p : Player). AllFair n (f p)) ps → AllFair n (flat_map f ps)
 fair_each n f [] h = refl
 fair_each n f (p ∷ ps) h = fair_append n (f p) (flat_map f ps) h.0 (fair_each n f ps h.1)
 
+-- a report that is found is fair
 some_report : (n : ℕ) (x r : Report) → is_fair n x ≡ true → (let o : Option Report = Some x in o) ≡ Some r → is_fair n r ≡ true
 some_report n x r h e = (let same : x ≡ r = cc in subst (λ (y : Report). is_fair n y ≡ true) same h)
 
 -- ---- what lines tell besides answers
 
+-- the report of a call is fair
 handed_fair : (n : ℕ) (edits : Edits) (side : Side) (player : ℕ) (d : Delivered) (r : Report) → call_report edits side player d ≡ Some r → is_fair n r ≡ true
 handed_fair n edits side player d r e = by d.message e
   where
@@ -83,10 +90,12 @@ handed_fair n edits side player d r e = by d.message e
     by (Updates a class values) q = none q
     by (Gone a) q = none q
 
+-- reports of packets sent are fair
 sent_fair : (n : ℕ) (side : Side) (player k : ℕ) (packets : List (List ℕ)) → AllFair n (numbered_from side player k packets)
 sent_fair n side player k [] = refl
 sent_fair n side player k (bytes ∷ packets) = sent_fair n side player (k + 1) packets
 
+-- reports of a tick are fair
 tick_fair : (n : ℕ) (table : Table) (edits : Edits) (side : Side) (p : Player) → AllFair n (after_tick_of table edits side p).1
 tick_fair n table edits side p = fair_append n (sent_reports side p.number (length (sent_bytes (end_of table side p) (past_at table side p))) (sent_bytes (end_of table side p) (past_at table side new))) (stalled_report side p.number (past_at table side p) (past_at table side new))
     (sent_fair n side p.number (length (sent_bytes (end_of table side p) (past_at table side p)) + 1) (drop (length (sent_bytes (end_of table side p) (past_at table side p))) (sent_bytes (end_of table side p) (past_at table side new))))
@@ -95,6 +104,7 @@ tick_fair n table edits side p = fair_append n (sent_reports side p.number (leng
     new : Player
     new = with_event side (tick_event table edits side p) p
 
+-- reports of copies are fair
 copies_fair : (n : ℕ) (table : Table) (p : Player) → AllFair n (copies_reports table p)
 copies_fair n table p = fair_found n (copy_report p.number (past_at table AtClient p)) one (copied_actors (past_at table AtClient p))
   where
@@ -105,6 +115,7 @@ copies_fair n table p = fair_found n (copy_report p.number (past_at table AtClie
         by None q = absurd (let no : (let o : Option Report = None in o) ≡ Some r = q in cc)
         by (Some class) q = some_report n (Copy p.number a class.name (copy_channel (past_at table AtClient p) a) (copy_values (past_at table AtClient p) a class)) r refl q
 
+-- reports of an edit are fair
 edit_fair : (n : ℕ) (edits : Edits) (edit : Edit) → AllFair n (edit_reports edits edit)
 edit_fair n edits (Spawn class x y) = refl
 edit_fair n edits (Destroy b) = refl

@@ -35,6 +35,7 @@ pub record More (past later : Past) : Type 0 where
   pub marks : (a : ℕ) → (ks : List Mark) × (marks_of later a ≡ ks ++ marks_of past a) × AllByRecursion (λ (mark : Mark). made_count past mark.channel < mark.number) ks
   pub opened : (a : ℕ) → was_opened past a ≡ true → was_opened later a ≡ true
 
+-- an opened actor stays opened after a message
 opened_made : (past : Past) (c : ℕ) (m : Message) (a : ℕ) → was_opened past a ≡ true → was_opened (after_making past c m) a ≡ true
 opened_made past c m a h = making_keeps (λ i before. was_opened before a ≡ true) past c m h (λ i before lt q. by before (open_class_in a (Made c (made_count past c + 1 + i) m i)) q)
   where
@@ -42,6 +43,7 @@ opened_made past c m a h = making_keeps (λ i before. was_opened before a ≡ tr
     by before None q = q
     by before (Some class) q = refl
 
+-- a message adds at most a mark, with a number above those made
 marks_more : (past : Past) (c : ℕ) (m : Message) (a : ℕ) → (ks : List Mark) × (marks_of (after_making past c m) a ≡ ks ++ marks_of past a) × AllByRecursion (λ (mark : Mark). made_count past mark.channel < mark.number) ks
 marks_more past c m a = by (marks_it a m) (marks_made past a c m)
   where

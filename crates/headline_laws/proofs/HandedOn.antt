@@ -48,6 +48,7 @@ abbrev pub Fall : List Mark → Type 0
 Fall [] = Unit {0}
 Fall (mark ∷ before) = AllByRecursion (λ (z : Mark). z.channel ≡ mark.channel → z.number < mark.number) before × Fall before
 
+-- an actor's marks fall after one more
 fall_made : (end : End) (past : Past) (c : ℕ) (m : Message) → IsRun end past → ((a : ℕ) → Fall (marks_of past a)) → (a : ℕ) → Fall (marks_of (after_making past c m) a)
 fall_made end past c m run h a = subst Fall (sym (marks_made past a c m)) (by (marks_it a m))
   where
@@ -72,6 +73,7 @@ marks_fall end past run = always end (λ past. (a : ℕ) → Fall (marks_of past
     step past (Hands d) run alive may h = λ a. subst Fall (sym (handed_ignored (mark_in a) (λ n es d ds. refl) d past)) (h a)
     step past (Ends g) run alive may h = h
 
+-- the marks before one are above it on its channel
 above_mid : (front : List Mark) (mark : Mark) (older : List Mark) → Fall (front ++ mark ∷ older) → AllByRecursion (λ (z : Mark). mark.channel ≡ z.channel → mark.number < z.number) front
 above_mid [] mark older h = tt
 above_mid (x ∷ front) mark older h = (all_mid (λ (z : Mark). z.channel ≡ x.channel → z.number < x.number) front mark older h.0, above_mid front mark older h.1)
@@ -88,6 +90,7 @@ come_all a (z ∷ ks) h = ((h.1, by z.message ks h.0), come_all a ks h.2)
     by (Updates b class values) before c = absurd c
     by (Calls b n call args) before c = absurd c
 
+-- what holds of all twice holds together
 both_all : (P Q : Mark → Type 0) (ks : List Mark) → AllByRecursion P ks → AllByRecursion Q ks → AllByRecursion (λ (z : Mark). P z × Q z) ks
 both_all P Q [] p q = tt
 both_all P Q (z ∷ ks) p q = ((p.0, q.0), both_all P Q ks p.1 q.1)

@@ -28,22 +28,26 @@ use Rattle.connection_laws.proofs.LinkedEnds.{top_when_made}
 
 -- ---- a bunch
 
+-- either way it is at most so much
 cond_most : (b : Bool) (x y k : ℕ) → x ≤ k → y ≤ k → cond b x y ≤ k
 cond_most true x y k p q = p
 cond_most false x y k p q = q
 
+-- the control bits are at most 6
 control_most : (o c s r : Bool) → length (control_bits o c s r) ≤ 6
 control_most o c s r =
     let a : cond (o || c) 3 1 ≤ 3 = cond_most (o || c) 3 1 3 (omega arith) (omega arith) in
     let b : cond c 1 0 ≤ 1 = cond_most c 1 0 1 (omega arith) (omega arith) in
     omega (arith, control_length o c s r, a, b)
 
+-- the numbered bits are at most 15
 numbered_most : (r : Bool) (seq : ℕ) (part : Part) (kind : ℕ) → length (numbered_bits r seq part kind) ≤ 15
 numbered_most r seq part kind =
     let a : cond r 13 0 ≤ 13 = cond_most r 13 0 13 (omega arith) (omega arith) in
     let b : cond (is_partial part) 2 0 ≤ 2 = cond_most (is_partial part) 2 0 2 (omega arith) (omega arith) in
     omega (arith, numbered_length r seq part kind, a, b)
 
+-- a channel takes at most 40 bits
 channel_most : (v : Version) (ch : ℕ) → length (channel_bits v ch) ≤ 40
 channel_most One ch = elim (cases_Bool (nat_lt (ch % 8192) 2048)) [
   | inl e ↦ omega (arith, channel_14 ch (ltb-true (ch % 8192) 2048 e))
@@ -51,6 +55,7 @@ channel_most One ch = elim (cases_Bool (nat_lt (ch % 8192) 2048)) [
 ]
 channel_most Two ch = omega (arith, packed_length ch, packed_most ch)
 
+-- a bunch of one part takes at most 7,100 bits
 bunch_most : (v : Version) (b : Bunch) → length b.payload ≤ 7000 → length (bunch_bits v b) ≤ 7100
 bunch_most v b h =
     omega (arith, bunch_length v b, control_most b.opens b.closes b.sleeps b.reliable, channel_most v b.channel, numbered_most b.reliable b.seq b.part b.kind, h)
@@ -79,6 +84,7 @@ pub count_of : {A : Type 0} (f : ℕ → A) (count from : ℕ) → length (map f
 count_of f zero from = refl
 count_of f (suc count) from = ap suc (count_of f count (from + 1))
 
+-- a start in version Two takes 31 bits, and 32 a word
 two_start : (number : ℕ) (head : Head) → length (start_bits Two number head) ≡ 31 + 32 * length head.words
 two_start number head =
     let top : List Bool = int_bits 16384 head.top in
@@ -99,6 +105,7 @@ pub start_same : (v : Version) (number : ℕ) (past : Past) → length (start_bi
 start_same One number past = omega (arith, power_width 14 number (omega arith), power_width 14 0 (omega arith))
 start_same Two number past = omega (arith, two_start number (head_of Two past), two_start 0 (head_of Two past))
 
+-- a head has so many words
 words_are : (past : Past) → length (head_of Two past).words ≡ word_count past
 words_are past = count_of (λ w. history_word past (top_of past - 32 * w)) (word_count past) 0
 
@@ -109,10 +116,12 @@ start_most Two past =
     let most : word_count past ≤ 1 + 7 = least_high (λ w. nat_le (top_of past - top_when past (high_of past)) (32 * w)) 7 1 in
     omega (arith, two_start 0 (head_of Two past), words_are past, most)
 
+-- a start takes the same where its words do
 start_like : (v : Version) (past later : Past) → word_count later ≡ word_count past → length (start_bits v 0 (head_of v later)) ≡ length (start_bits v 0 (head_of v past))
 start_like One past later e = refl
 start_like Two past later e = omega (arith, two_start 0 (head_of Two past), two_start 0 (head_of Two later), words_are past, words_are later, e)
 
+-- a head has as many words where the newest and the last known are the same
 words_like : (past later : Past) → top_of later ≡ top_of past → top_when later (high_of later) ≡ top_when past (high_of past) → word_count later ≡ word_count past
 words_like past later t w = rw (t, w) refl
 

@@ -15,12 +15,15 @@ use Rattle.payload_laws.proofs.Handing.{then_ends}
 use Rattle.payload_laws.proofs.Tests.{not_below_is}
 use Rattle.headline_laws.specs.Fits.{DeedFits, PastFits}
 
+-- no rule of joining is broken by one part
 loose_fault : (kept : List Bunch) (ch : ℕ) (m : Message) → length (message_bits m) ≤ 7000 → part_fault kept (loose_bunch ch m) Whole ≡ None
 loose_fault kept ch m h = rw (not_below_is 7000 (length (message_bits m)) h) refl
 
+-- its bits are the message
 loose_joined : (ch : ℕ) (m : Message) → joined_bits [] (loose_bunch ch m) ≡ message_bits m
 loose_joined ch m = append-nil (message_bits m)
 
+-- so what it says is the message
 loose_one : (end : End) (past : Past) (kept : List Bunch) (ch : ℕ) (m : Message) → lacks_copy end.side past kept (loose_bunch ch m) ≡ false → part_fault kept (loose_bunch ch m) Whole ≡ None → joined_bits [] (loose_bunch ch m) ≡ message_bits m
     → payload_at end past (loose_bunch ch m) (message_bits m) ≡ Ok (m, []) → bunch_result end past kept (loose_bunch ch m) ≡ Ok (Some (delivery_of end past (loose_bunch ch m) m))
 loose_one end past kept ch m l f j p = rw (l, f, j) (rw (p, payload_result) refl)
@@ -33,6 +36,7 @@ loose_handed end past kept ch m l short p =
 
 -- ---- what waited is short
 
+-- what holds of each deed did before
 each_back : (P : Past → Deed → Type 0) (later past : List Deed) → EachDeed P (later ++ past) → EachDeed P past
 each_back P [] past h = h
 each_back P (x ∷ later) past h = each_back P later past h.1

@@ -61,10 +61,12 @@ received_low left l r run hands whole ch made rec =
 
 -- ---- the user stays while its actor isn't marked again
 
+-- older messages stand in their uses
 brackets_back : (xs ys : List Numbered) → Brackets (xs ++ ys) → Brackets ys
 brackets_back [] ys h = h
 brackets_back (x ∷ xs) ys h = brackets_back xs ys h.1
 
+-- the message is no mark of the actor
 abbrev NoMark : ℕ → Numbered → Type 0
 NoMark a x = actor_of x.1 ≡ a → is_mark x.1 ≡ true → ⊥
 

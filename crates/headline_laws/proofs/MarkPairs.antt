@@ -58,6 +58,7 @@ new_fits end past a c m may it = by m may it (marks_of past a) refl
     by (Calls b n call args) may it [] e = refl
     by (Calls b n call args) may it (mark ∷ before) e = ((λ q. absurd (false≢true q)), (λ q. absurd (false≢true q)))
 
+-- marks fit after a message
 fit_made : (end : End) (past : Past) (c : ℕ) (m : Message) → MayMake end past c m → ((a : ℕ) → MarksFit (marks_of past a)) → (a : ℕ) → MarksFit (marks_of (after_making past c m) a)
 fit_made end past c m may h a = subst MarksFit (sym (marks_made past a c m)) (by (marks_it a m) refl)
   where

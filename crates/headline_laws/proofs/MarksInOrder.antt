@@ -43,6 +43,7 @@ made_low end past run ch made at =
     let all : made_count past ch ≡ parts_in at.newer + (parts_of made.1 + parts_in at.older) = row.count ∙ ap parts_in at.split ∙ parts_append at.newer (made ∷ at.older) in
     (omega (arith, n, all), omega (arith, n))
 
+-- the first mark is the last one made
 last_first : (past : Past) (a : ℕ) (mark : Mark) (before : List Mark) → marks_of past a ≡ mark ∷ before → last_mark past a ≡ Some mark
 last_first past a mark before e = ap (λ (ks : List Mark). slice_get ks 0) e
 
@@ -74,6 +75,7 @@ pub record IsDead (edits : Edits) (a : ℕ) : Type 0 where
   pub high : number ≤ spawn_count edits
   pub dead : lives edits a ≡ false
 
+-- a dead actor stays dead
 dead_later : (more edits : Edits) (a : ℕ) → IsDead edits a → IsDead (more ++ edits) a
 dead_later more edits a d = record {
   number = d.number;

@@ -22,6 +22,7 @@ use Rattle.headline_laws.proofs.CopiesGoOn.{holder_is_user}
 
 -- ---- the next message fits those before it
 
+-- a message stands in its actor's use
 bracket_at : (newer : List Numbered) (made : Numbered) (older : List Numbered) → Brackets (newer ++ made ∷ older) → FitsUse older made.1
 bracket_at [] made older h = h.0
 bracket_at (x ∷ newer) made older h = bracket_at newer made older h.1
@@ -36,6 +37,7 @@ next_fits end past s run ch done made later e =
 
 -- ---- the user by the messages alone
 
+-- the user after these messages
 abbrev user_in : List Message → Option ℕ
 user_in [] = None
 user_in (m ∷ ms) = elim (user_said m) [ Some user ↦ user | None ↦ user_in ms ]
@@ -49,6 +51,7 @@ user_by (made ∷ ms) = by (user_said made.1) (user_by ms)
     by None e = e
     by (Some user) e = refl
 
+-- what was applied is what was handed on reliably
 applied_messages : (ch : ℕ) (ds : List Delivered) → map (λ (x : Numbered). x.1) (filter_map (applied_in ch) ds) ≡ map (λ (d : Delivered). d.message) (filter (λ (d : Delivered). d.channel == ch && d.reliable) ds)
 applied_messages ch [] = refl
 applied_messages ch (d ∷ ds) = by (d.channel == ch && d.reliable) (applied_messages ch ds)
@@ -76,14 +79,17 @@ user_done client ch done e =
 
 -- ---- the next message finds its copy
 
+-- a Gone needs no copy
 gone_free : (b x : Bool) → b ≡ true → (not b && x) ≡ false
 gone_free true x e = refl
 gone_free false x e = absurd (false≢true e)
 
+-- nor does one that finds it
 and_none : (b x : Bool) → x ≡ false → (not b && x) ≡ false
 and_none true x e = refl
 and_none false x e = e
 
+-- the next message finds its copy
 copy_there : (client : Past) (ch n : ℕ) (m : Message) (o : Option ℕ) → copy_on client ch ≡ o → (ch == 0) ≡ is_gone m → (before : List Numbered) → user_of before ≡ o → FitsUse before m → lacks_copy AtClient client [] (made_bunch ch n m 0) ≡ false
 copy_there client ch n (Opens exports a class values) o e g before u f = and_none (ch == 0) (is_some (copy_on client ch)) (ap (λ (x : Option ℕ). is_some x) (e ∙ sym u ∙ f))
 copy_there client ch n (Closes a sleeps) o e g before u f = and_none (ch == 0) (is_none (copy_on client ch) && not (true && nat_lt 0 0)) (ap (λ (x : Option ℕ). is_none x && not (true && nat_lt 0 0)) (e ∙ sym u ∙ f))

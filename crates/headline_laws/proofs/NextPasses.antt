@@ -96,6 +96,7 @@ IsReliable past (Sent n t items) = Unit {0}
 IsReliable past (Took n es ds) = Unit {0}
 IsReliable past (Ended g) = Unit {0}
 
+-- a message that may be made is reliable
 reliable_made : (end : End) (past : Past) (ch : ℕ) (m : Message) → MayMake end past ch m → is_reliable m ≡ true
 reliable_made end past ch (Opens exports a class values) may = refl
 reliable_made end past ch (Closes a sleeps) may = refl
@@ -151,14 +152,17 @@ pub record AtTurn (l r : Past) (hands : HandsOnAll l r) (a : ℕ) (follow : Mark
   pub is : follow.newer ≡ front ++ mark ∷ []
   pub comes : MarkComes mark mark.message follow.older
 
+-- what holds of all but the first holds behind it
 second_at : (P : Mark → Type 0) (xs : List Mark) (y z : Mark) (zs : List Mark) → AllByRecursion P (without_newest (xs ++ y ∷ z ∷ zs)) → P z
 second_at P [] y z zs h = h.0
 second_at P (x ∷ xs) y z zs h = (all_back P xs (y ∷ z ∷ zs) h).1.0
 
+-- a mark comes in turn in its place
 come_at : (a : ℕ) (xs : List Mark) (y : Mark) (zs : List Mark) → MarksCome a (xs ++ y ∷ zs) → MarkComes y y.message zs
 come_at a [] y zs h = h.0
 come_at a (x ∷ xs) y zs h = come_at a xs y zs h.2
 
+-- what lets an actor sleep closes it
 sleeping_closes : (m : Message) → is_sleeping m ≡ true → is_closing m ≡ true
 sleeping_closes (Closes b sleeps) e = refl
 sleeping_closes (Opens exports b class values) e = absurd (false≢true e)
@@ -264,18 +268,22 @@ exports_in m = elim m [ Opens exports actor class values ↦ exports | _ ↦ [] 
 abbrev ExportsFit : (segments names : List Segment) → Message → Type 0
 ExportsFit segments names m = StandAmong segments (exports_in m) × KnowsAll names (exports_in m)
 
+-- what was exported fits the names learnt
 exports_fit : (segments names : List Segment) (ds : List Delivered) → ExportsStand segments ds → ExportsKnown names ds → AllByRecursion (λ (d : Delivered). ExportsFit segments names d.message) ds
 exports_fit segments names [] s k = tt
 exports_fit segments names (d ∷ ds) s k = ((s.0, k.0), exports_fit segments names ds s.1 k.1)
 
+-- what holds of all holds of those that pass
 filtered : (P : Delivered → Type 0) (test : Delivered → Bool) (ds : List Delivered) → AllByRecursion P ds → AllByRecursion P (filter test ds)
 filtered P test [] h = tt
 filtered P test (d ∷ ds) h = cond_both (test d) (d ∷ filter test ds) (filter test ds) (AllByRecursion P) (λ e. (h.0, filtered P test ds h.1)) (λ e. filtered P test ds h.1)
 
+-- what holds of the messages of payloads holds of them mapped
 mapped : (P : Message → Type 0) (ds : List Delivered) → AllByRecursion (λ (d : Delivered). P d.message) ds → AllByRecursion P (map (λ (d : Delivered). d.message) ds)
 mapped P [] h = tt
 mapped P (d ∷ ds) h = (h.0, mapped P ds h.1)
 
+-- and the other way round
 unmapped : (P : Message → Type 0) (ms : List Numbered) → AllByRecursion P (map (λ (x : Numbered). x.1) ms) → AllByRecursion (λ (x : Numbered). P x.1) ms
 unmapped P [] h = tt
 unmapped P (x ∷ ms) h = (h.0, unmapped P ms h.1)
@@ -295,6 +303,7 @@ record Found (segments names : List Segment) (guid : ℕ) : Type 0 where
   knows : Knows names segment
   guid_is : segment.guid ≡ guid
 
+-- a segment of names that are all known is found
 found_among : (segments names : List Segment) (guid : ℕ) (xs : List Segment) → list_any (λ (s : Segment). s.guid == guid) xs ≡ true → StandAmong segments xs → KnowsAll names xs → Found segments names guid
 found_among segments names guid [] h s k = absurd (false≢true h)
 found_among segments names guid (x ∷ xs) h s k = elim (or_cases (x.guid == guid) (list_any (λ (s : Segment). s.guid == guid) xs) h) [
@@ -302,6 +311,7 @@ found_among segments names guid (x ∷ xs) h s k = elim (or_cases (x.guid == gui
   | inr e ↦ found_among segments names guid xs e s.1 k.1
 ]
 
+-- a segment that a message exports is found
 found_export : (segments names : List Segment) (guid : ℕ) (m : Message) → exports_segment guid m ≡ true → ExportsFit segments names m → Found segments names guid
 found_export segments names guid (Opens exports a class values) h f = found_among segments names guid exports h f.0 f.1
 found_export segments names guid (Closes a sleeps) h f = absurd (false≢true h)

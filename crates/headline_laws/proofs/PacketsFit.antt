@@ -32,6 +32,7 @@ use Rattle.headline_laws.proofs.ChannelsFit.{index_fits}
 
 -- ---- what is made
 
+-- channel 0 can be spelled
 zero_below : (v : Version) → 0 < channel_limit v
 zero_below One = omega arith
 zero_below Two = omega arith
@@ -40,10 +41,12 @@ zero_below Two = omega arith
 pub fits_made : (end : End) (past : Past) (ch : ℕ) (m : Message) → PastFits end past → ch < channel_limit end.version → OpenFits m → length (message_bits m) ≤ 70000 → PastFits end (after_making past ch m)
 fits_made end past ch m f low open_fits short = making_keeps (λ i before. PastFits end before) past ch m f (λ i before lt h. ((low, open_fits, short), h))
 
+-- a past fits after a message that there may be room for
 room_fits : (end : End) (past : Past) (o : Option ℕ) (m : Message) → PastFits end past → ((ch : ℕ) → o ≡ Some ch → ch < channel_limit end.version) → OpenFits m → length (message_bits m) ≤ 70000 → PastFits end (made_if_room past o m)
 room_fits end past None m f low q short = f
 room_fits end past (Some ch) m f low q short = cond_both (nat_lt 0 (room past ch)) (after_making past ch m) past (PastFits end) (λ e. fits_made end past ch m f (low ch refl) q short) (λ e. f)
 
+-- a past fits after a close
 close_fits : (end : End) (past : Past) (a : ℕ) → PastFits end past → PastFits end (after_close past a)
 close_fits end past a f =
     let seen : Option Seen = seen_in (sight_of past) a in
@@ -79,6 +82,7 @@ pub record PackFits (end : End) (start : ℕ) (past : Past) (packets : List (Lis
 abbrev pub PackingFits : End → (start : ℕ) → Packing → Type 0
 PackingFits end start p = PackFits end start p.past p.packets
 
+-- items take their bits together
 items_more : (v : Version) (items more : List Item) → items_length v (items ++ more) ≡ items_length v items + items_length v more
 items_more v [] more = omega arith
 items_more v (item ∷ items) more =
@@ -89,15 +93,19 @@ items_more v (item ∷ items) more =
       length-append (rec_bits v (rec_of item)) (flat_map (λ i. rec_bits v (rec_of i)) items),
     )
 
+-- an item takes its own
 one_length : (v : Version) (item : Item) → items_length v (item ∷ []) ≡ length (rec_bits v (rec_of item))
 one_length v item = ap length (append-nil (rec_bits v (rec_of item)))
 
+-- a packet takes its start and its items
 packet_is : (end : End) (past : Past) (items : List Item) → packet_length end past items ≡ start_length end past + items_length end.version items
 packet_is end past items = length-append (start_bits end.version 0 (head_of end.version past)) (flat_map (λ item. rec_bits end.version (rec_of item)) items)
 
+-- an item fits a packet alone
 alone_fits : (end : End) (past : Past) (start : ℕ) (item : Item) → start_length end past ≡ start → ItemFits end.version item → PacketFits end.version start (item ∷ [])
 alone_fits end past start item e f = ((f, tt), omega (arith, e, start_most end.version past, one_length end.version item, f.1))
 
+-- it fits behind others that leave room
 with_fits : (end : End) (past : Past) (start : ℕ) (packets : List (List Item)) (item : Item) → start_length end past ≡ start → ItemFits end.version item → AllByRecursion (PacketFits end.version start) packets
     → (b : Bool) → fits_current end past packets item ≡ b → AllByRecursion (PacketFits end.version start) (items_with packets b item)
 with_fits end past start [] item e f all true q = absurd (false≢true q)

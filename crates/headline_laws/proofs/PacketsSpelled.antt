@@ -76,6 +76,7 @@ recs_fit : (v : Version) (items : List Item) → AllByRecursion (ItemFits v) ite
 recs_fit v [] h = refl
 recs_fit v (item ∷ items) h = both (is_rec v (rec_of item)) (list_all (λ rec. is_rec v rec) (map rec_of items)) h.0.0 (recs_fit v items h.1)
 
+-- records take the bits of their items
 recs_length : (v : Version) (items : List Item) → length (flat_map (λ rec. rec_bits v rec) (map rec_of items)) ≡ items_length v items
 recs_length v [] = refl
 recs_length v (item ∷ items) =
@@ -94,6 +95,7 @@ bytes_few bits h =
     let its : 8 * length (bytes_of bits) ≡ length bits + held.0 = sym (length-bits_of (bytes_of bits)) ∙ ap length held.2 ∙ length-append bits (replicate held.0 false) ∙ ap (λ (n : ℕ). length bits + n) (length-replicate held.0 false) in
     omega (arith, its, under, h)
 
+-- a packet that fits has a spelling
 packet_spells : (end : End) (past : Past) (number : ℕ) (items : List Item) → PacketFits end.version (start_length end past) items
     → Spells end.version (packet_carrying end past number items) (spelling_of end.version (packet_carrying end past number items))
 packet_spells end past number items f =
@@ -140,6 +142,7 @@ module _ (end : End) (know : (feed : List Event) → PastFits end (past_of end f
 
 -- ---- the classes by which calls are made
 
+-- the class of an opened actor has limits
 opened_limits : (end : End) (past : Past) (a : ℕ) (class : Class) → PastFits end past → opened_class past a ≡ Some class → HasLimits class
 opened_limits end [] a class f e = absurd (let no : (let o : Option Class = None in o) ≡ Some class = e in cc)
 opened_limits end (Ticked t s ∷ past) a class f e = opened_limits end past a class f.1 e
@@ -160,6 +163,7 @@ opened_limits end (Sent n t items ∷ past) a class f e = opened_limits end past
 opened_limits end (Took n es ds ∷ past) a class f e = opened_limits end past a class f.1 e
 opened_limits end (Ended g ∷ past) a class f e = opened_limits end past a class f.1 e
 
+-- an end knows the calls of its classes
 know_by : (end : End) (side : Side) (entries : List Entry) → IsTable entries → end.table ≡ table_of entries → end.side ≡ side → (feed : List Event) → PastFits end (past_of end feed) → CallsKnow side (past_of end feed)
 know_by end AtServer entries is t s feed f a class e = opened_limits end (past_of end feed) a class f e
 know_by end AtClient entries is t s feed f a class e = (client_limits entries end feed is t s).known a class e

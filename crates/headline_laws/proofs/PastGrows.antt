@@ -35,9 +35,11 @@ grows_on past later last g h = record {
   arrived = λ ch i e. h.arrived ch i (g.arrived ch i e);
 }
 
+-- it grows where messages stay and arrivals do
 grows_like : (past later : Past) → ((ch : ℕ) → on_index ch later ≡ on_index ch past) → ((ch i : ℕ) → has_arrived past ch i ≡ true → has_arrived later ch i ≡ true) → Grows past later
 grows_like past later n a = record { made = λ ch. ([], n ch); arrived = a }
 
+-- a message lets it grow
 grows_made : (past : Past) (c : ℕ) (m : Message) → Grows past (after_making past c m)
 grows_made past c m = record {
   made = λ ch. (cond (c == ch) ((made_count past c + 1, m) ∷ []) [], messages_made past ch c m ∙ by ch (c == ch));
@@ -73,6 +75,7 @@ below_grows past later g ch n h i lo hi = g.arrived ch i (h i lo hi)
 
 -- ---- what opens export
 
+-- an export that arrived stays so
 export_grows : (past later : Past) → Grows past later → (guid : ℕ) → ExportArrived past guid → ExportArrived later guid
 export_grows past later g guid e = record {
   channel = e.channel;
@@ -82,6 +85,7 @@ export_grows past later g guid e = record {
   arrived = below_grows past later g e.channel (e.made.0 + parts_of e.made.1) e.arrived;
 }
 
+-- an open exports the rest later too
 open_grows : (past later : Past) → Grows past later → (m : Message) → OpenExports past m → OpenExports later m
 open_grows past later g (Opens exports a class values) o = record { known = o.known; is = o.is; arrived = λ guid k. export_grows past later g guid (o.arrived guid k) }
 open_grows past later g (Closes a sleeps) o = tt
@@ -89,6 +93,7 @@ open_grows past later g (Updates a class values) o = tt
 open_grows past later g (Calls a n call args) o = tt
 open_grows past later g (Gone a) o = tt
 
+-- a known segment was exported by an open that arrived
 known_arrived : (end : End) (past : Past) → IsRun end past → (guid : ℕ) → is_known past guid ≡ true → ExportArrived past guid
 known_arrived end past run guid h =
     let k = known_in past past guid h in
@@ -100,6 +105,7 @@ known_arrived end past run guid h =
       arrived = open_arrived end past run k.channel k.made k.at (exports_open guid k.made.1 k.exports) k.arrived;
     }
 
+-- an open that is made exports the rest
 exports_made : (end : End) (past : Past) (c : ℕ) (m : Message) → IsRun end past → MayMake end past c m → OpenExports (after_making past c m) m
 exports_made end past c (Opens exports a class values) run may = by may.place.4
   where
@@ -248,6 +254,7 @@ pub record SaidAt (end : End) (past : Past) (k : ℕ) (item : Item) : Type 0 whe
   pub t : ℕ
   pub is : past ≡ later ++ Sent k t items ∷ before
 
+-- what a packet says was among its items
 said_in : (v : Version) (past : Past) (k : ℕ) (item : Item) → IsIn (SaysItem item) (said_by v past k)
     → (before : Past) × (items : List Item) × (later : List Deed) × (t : ℕ) × (past ≡ later ++ Sent k t items ∷ before) × IsIn item items
 said_in v [] k item h = absurd h

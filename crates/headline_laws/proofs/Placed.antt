@@ -32,9 +32,11 @@ Rule past (Sent n t items) = Unit {0}
 Rule past (Took n es ds) = Unit {0}
 Rule past (Ended g) = Unit {0}
 
+-- an index that is held is above 0
 index_above : (end : End) (past : Past) (a ch : ℕ) → IsRun end past → index_of past a ≡ Some ch → (ch == 0) ≡ false
 index_above end past a ch run e = not_zero ch ((holds_fit end past run).above a ch e)
 
+-- a call's channel is above 0
 call_above : (end : End) (past : Past) (a ch : ℕ) → IsRun end past → call_channel AtServer past a ≡ Some ch → (ch == 0) ≡ false
 call_above end past a ch run e = by (is_opened (state_of past a)) e
   where
@@ -64,6 +66,7 @@ rules end past s run = always end (EachDeed Rule) tt step past run
     step past (Hands d) run alive may h = handed_keeps (EachDeed Rule) d past h (λ n es ds before q. (tt, q.1))
     step past (Ends g) run alive may h = (tt, h)
 
+-- a bunch that was made is in its place
 found_placed : (past : Past) (ch n : ℕ) (b : Bunch) → EachDeed Rule past → newest_of (made_as ch n) past ≡ Some b → is_misplaced AtClient b ≡ false
 found_placed [] ch n b f e = absurd (let no : (let o : Option Bunch = None in o) ≡ Some b = e in cc)
 found_placed (Made c k m i ∷ past) ch n b f e = by ((c == ch) && (k == n)) e (λ q. found_placed past ch n b f.1 q)

@@ -32,16 +32,19 @@ use Rattle.headline_laws.proofs.WholeMessages.{InRow, rows, joined, arrived_belo
 
 -- ---- opens are clear
 
+-- an index without a span has nothing under way
 all_arrived : (past : Past) (ch : ℕ) → span past ch ≡ 0 → ArrivedBelow past ch (made_count past ch + 1)
 all_arrived past ch e i lo hi =
     not-false (has_arrived past ch i) (least_below (λ n. not (has_arrived past ch n)) (made_count past ch) 1 i lo (omega (arith, e, hi)))
 
+-- it stays so where messages and arrivals do
 clear_like : (past later : Past) → ((ch : ℕ) → on_index ch later ≡ on_index ch past) → ((ch i : ℕ) → has_arrived past ch i ≡ true → has_arrived later ch i ≡ true) → OpensClear past → OpensClear later
 clear_like past later n a h ch =
     subst (AllByRecursion (λ (made : Numbered). is_opening made.1 ≡ true → ArrivedBelow later ch made.0)) (sym (n ch))
     (all_weaker (λ (made : Numbered). is_opening made.1 ≡ true → ArrivedBelow past ch made.0) (λ (made : Numbered). is_opening made.1 ≡ true → ArrivedBelow later ch made.0)
     (λ made f o i lo hi. a ch i (f o i lo hi)) (on_index ch past) (h ch))
 
+-- it stays so after a message
 clear_made : (end : End) (past : Past) (c : ℕ) (m : Message) → MayMake end past c m → OpensClear past → OpensClear (after_making past c m)
 clear_made end past c m may h ch = elim (cases_eq c ch) [
   | inl e ↦ subst (λ (x : ℕ). AllByRecursion (λ (made : Numbered). is_opening made.1 ≡ true → ArrivedBelow (after_making past c m) x made.0) (on_index x (after_making past c m))) e
@@ -146,6 +149,7 @@ pub record Known (past whole : Past) (g : ℕ) : Type 0 where
   pub arrived : have_arrived whole channel made.0 (parts_of made.1) ≡ true
   pub at : MadeAt past channel made
 
+-- a known segment stays so
 known_later : (past whole : Past) (g : ℕ) (deed : Deed) → Known past whole g → Known (deed ∷ past) whole g
 known_later past whole g deed k = record {
   channel = k.channel;

@@ -34,10 +34,12 @@ marks_it a m = (actor_of m == a) && is_mark m
 abbrev pub new_mark : Past → ℕ → Message → Mark
 new_mark past c m = record { channel = c; number = made_count past c + 1; message = m }
 
+-- the marks after some parts of a message
 abbrev Listed : Past → (a c : ℕ) → Message → ℕ → Past → Type 0
 Listed past a c m zero before = marks_of before a ≡ marks_of past a
 Listed past a c m (suc i) before = marks_of before a ≡ cond (marks_it a m) (new_mark past c m ∷ marks_of past a) (marks_of past a)
 
+-- the marks after one more part
 listed_step : (past : Past) (a c : ℕ) (m : Message) (i : ℕ) (before : Past) → Listed past a c m i before → Listed past a c m (suc i) (Made c (made_count past c + 1 + i) m i ∷ before)
 listed_step past a c m zero before h =
     let n : made_count past c + 1 + 0 ≡ made_count past c + 1 = omega arith in
@@ -47,6 +49,7 @@ listed_step past a c m (suc i) before h =
     ap (λ (t : Bool). cons_option (then_some (marks_it a m && t) (let x : Mark = record { channel = c; number = made_count past c + 1 + suc i; message = m } in x)) (marks_of before a)) (ne_eqb (suc i) 0 (λ q. absurd (omega (arith, q))))
     ∙ listed_later (marks_it a m) (record { channel = c; number = made_count past c + 1 + suc i; message = m }) (marks_of before a) ∙ h
 
+-- the marks after all parts
 listed_end : (past : Past) (a c : ℕ) (m : Message) (i : ℕ) (before : Past) → 1 ≤ i → Listed past a c m i before → marks_of before a ≡ cond (marks_it a m) (new_mark past c m ∷ marks_of past a) (marks_of past a)
 listed_end past a c m zero before lo h = absurd (omega (arith, lo))
 listed_end past a c m (suc i) before lo h = h
@@ -59,6 +62,7 @@ marks_made past a c m =
 
 -- ---- a close that something follows has arrived
 
+-- a close that holds no index has arrived
 closed_held : (past : Past) (mark : Mark) (m : Message) → is_closing m ≡ true → (holds_index (state_after past mark m) ≡ false) ⊎ (is_asleep (state_after past mark m) ≡ true) → have_arrived past mark.channel 1 mark.number ≡ true
 closed_held past mark (Closes b sleeps) c h = by (have_arrived past mark.channel 1 mark.number) sleeps refl h
   where
@@ -71,6 +75,7 @@ closed_held past mark (Updates b class values) c h = absurd (false≢true c)
 closed_held past mark (Calls b n call args) c h = absurd (false≢true c)
 closed_held past mark (Gone b) c h = absurd (false≢true c)
 
+-- a close leaves no open state
 not_open : (past : Past) (mark : Mark) (m : Message) → is_closing m ≡ true → is_open (state_after past mark m) ≡ false
 not_open past mark (Closes b sleeps) c = by (have_arrived past mark.channel 1 mark.number) sleeps
   where
@@ -83,6 +88,7 @@ not_open past mark (Updates b class values) c = absurd (false≢true c)
 not_open past mark (Calls b n call args) c = absurd (false≢true c)
 not_open past mark (Gone b) c = absurd (false≢true c)
 
+-- a close has arrived before the next mark is made
 newest_arrived : (end : End) (past : Past) (a c : ℕ) (m : Message) → MayMake end past c m → marks_it a m ≡ true → (mark : Mark) → last_mark past a ≡ Some mark → is_closing mark.message ≡ true → have_arrived past mark.channel 1 mark.number ≡ true
 newest_arrived end past a c m may it mark e closing = by m may it
   where
@@ -120,11 +126,13 @@ newest_arrived end past a c m may it mark e closing = by m may it
         and_right true = refl
         and_right false = refl
 
+-- it stays so where marks and arrivals do
 closes_like : (past later : Past) → ((a : ℕ) → marks_of later a ≡ marks_of past a) → ((ch i : ℕ) → has_arrived past ch i ≡ true → has_arrived later ch i ≡ true) → ((a : ℕ) → ClosesArrived past a) → (a : ℕ) → ClosesArrived later a
 closes_like past later n k h a =
     subst (λ (l : List Mark). AllByRecursion (CloseArrived later) (without_newest l)) (sym (n a))
     (all_weaker (CloseArrived past) (CloseArrived later) (λ mark f c i lo hi. k mark.channel i (f c i lo hi)) (without_newest (marks_of past a)) (h a))
 
+-- it stays so after a message
 closes_made : (end : End) (past : Past) (c : ℕ) (m : Message) → MayMake end past c m → ((a : ℕ) → ClosesArrived past a) → (a : ℕ) → ClosesArrived (after_making past c m) a
 closes_made end past c m may h a = subst (λ (l : List Mark). AllByRecursion (CloseArrived (after_making past c m)) (without_newest l)) (sym (marks_made past a c m)) (by (marks_it a m) refl)
   where
@@ -191,6 +199,7 @@ marks_at a (deed ∷ past) = by deed (all_weaker (IsMade past) (IsMade (deed ∷
     by (Took n es ds) h = h
     by (Ended g) h = h
 
+-- each close that arrived was received
 both_of : (from to : Past) → ArrivesWhole from to → (ks : List Mark) → AllByRecursion (IsMade from) ks → AllByRecursion (CloseArrived from) ks
     → AllByRecursion (λ mark. is_closing mark.message ≡ true → IsReceived from to mark.channel (mark.number, mark.message)) ks
 both_of from to whole [] m c = tt
@@ -203,6 +212,7 @@ both_of from to whole (mark ∷ ks) m c = ((λ closing. whole mark.channel (mark
     one (Calls b n call args) q = absurd (false≢true q)
     one (Gone b) q = absurd (false≢true q)
 
+-- what holds of all marks holds of those before the newest
 tail_of : (P : Mark → Type 0) (ks : List Mark) → AllByRecursion P ks → AllByRecursion P (without_newest ks)
 tail_of P [] h = tt
 tail_of P (k ∷ ks) h = h.1

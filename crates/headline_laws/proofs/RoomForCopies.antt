@@ -14,9 +14,11 @@ use Rattle.headline_laws.proofs.ChannelsFit.{back_inserted, back_in_order, back_
 
 -- ---- different numbers
 
+-- what is not among more is not among fewer
 new_among : (n : ℕ) (xs ys : List ℕ) → (is_among n ys ≡ true → is_among n xs ≡ true) → is_among n xs ≡ false → is_among n ys ≡ false
 new_among n xs ys h e = elim (cases_Bool (is_among n ys)) [ inl q ↦ absurd (false≢true (sym e ∙ h q)) | inr q ↦ q ]
 
+-- numbers, each once, are different
 distinct_once : (xs : List ℕ) → AreDistinct (each_once xs)
 distinct_once [] = tt
 distinct_once (x ∷ xs) = elim (cases_Bool (is_among x xs)) [
@@ -24,6 +26,7 @@ distinct_once (x ∷ xs) = elim (cases_Bool (is_among x xs)) [
   | inr e ↦ rw e (new_among x xs (each_once xs) (back_each_once xs x) e, distinct_once xs)
 ]
 
+-- different numbers with a new one are different
 distinct_inserted : (x : ℕ) (ys : List ℕ) → is_among x ys ≡ false → AreDistinct ys → AreDistinct (insert_in_order nat_lt x ys)
 distinct_inserted x [] e d = (refl, tt)
 distinct_inserted x (y ∷ ys) e d =
@@ -39,10 +42,12 @@ distinct_inserted x (y ∷ ys) e d =
       ]
     ]
 
+-- so are they in order
 distinct_in_order : (xs : List ℕ) → AreDistinct xs → AreDistinct (in_order nat_lt xs)
 distinct_in_order [] d = tt
 distinct_in_order (x ∷ xs) d = distinct_inserted x (in_order nat_lt xs) (new_among x xs (in_order nat_lt xs) (back_in_order nat_lt xs x) d.0) (distinct_in_order xs d.1)
 
+-- what is among those that pass is among all, and passes
 back_filtered : (test : ℕ → Bool) (xs : List ℕ) (n : ℕ) → is_among n (filter test xs) ≡ true → (is_among n xs ≡ true) × (test n ≡ true)
 back_filtered test [] n h = absurd (false≢true h)
 back_filtered test (x ∷ xs) n h =
@@ -52,6 +57,7 @@ back_filtered test (x ∷ xs) n h =
       | inr r ↦ (let b = back_filtered test xs n r in (among_there x xs n b.0, b.1))
     ]) (λ e q. (let b = back_filtered test xs n q in (among_there x xs n b.0, b.1))) h
 
+-- those that pass are different
 distinct_filtered : (test : ℕ → Bool) (xs : List ℕ) → AreDistinct xs → AreDistinct (filter test xs)
 distinct_filtered test [] d = tt
 distinct_filtered test (x ∷ xs) d =
@@ -60,9 +66,11 @@ distinct_filtered test (x ∷ xs) d =
 
 -- ---- halves
 
+-- the number of an actor's spawn
 abbrev half : ℕ → ℕ
 half n = n / 2
 
+-- such a number is of an actor among them
 from_half : (xs : List ℕ) (k : ℕ) → is_among k (map half xs) ≡ true → (n : ℕ) × (is_among n xs ≡ true) × (n / 2 ≡ k)
 from_half [] k h = absurd (false≢true h)
 from_half (x ∷ xs) k h = elim (among_cons (x / 2) (map half xs) k h) [
@@ -70,12 +78,15 @@ from_half (x ∷ xs) k h = elim (among_cons (x / 2) (map half xs) k h) [
   | inr e ↦ (let r = from_half xs k e in (r.0, among_there x xs r.0 r.1, r.2))
 ]
 
+-- each was spawned
 abbrev AllSpawned : List ℕ → Type 0
 AllSpawned xs = (n : ℕ) → is_among n xs ≡ true → IsSpawned n
 
+-- actors of one spawn are one
 same_half : (m n : ℕ) → IsSpawned m → IsSpawned n → m / 2 ≡ n / 2 → m ≡ n
 same_half m n a b e = omega (arith, a.1, b.1, e)
 
+-- different actors have different spawns
 distinct_halves : (xs : List ℕ) → AllSpawned xs → AreDistinct xs → AreDistinct (map half xs)
 distinct_halves [] all d = tt
 distinct_halves (x ∷ xs) all d = (new, distinct_halves xs (λ n q. all n (among_there x xs n q)) d.1)
@@ -89,17 +100,20 @@ distinct_halves (x ∷ xs) all d = (new, distinct_halves xs (λ n q. all n (amon
           absurd (false≢true (sym d.0 ∙ subst (λ (n : ℕ). is_among n xs ≡ true) same r.1)))
     ]
 
+-- spawns are numbered from 1 to 8,192
 halves_low : (xs : List ℕ) → AllSpawned xs → (k : ℕ) → is_among k (map half xs) ≡ true → (0 < k) × (k ≤ 0 + 8192)
 halves_low xs all k h =
     let r = from_half xs k h in
     let s = all r.0 r.1 in
     (omega (arith, s.1, s.2, r.2), omega (arith, s.1, s.3, r.2))
 
+-- so at most 8,192 different actors were spawned
 few_spawned : (xs : List ℕ) → AllSpawned xs → AreDistinct xs → length xs ≤ 8192
 few_spawned xs all d = omega (arith, distinct_fit 8192 0 (map half xs) (distinct_halves xs all d) (halves_low xs all), length-map xs half)
 
 -- ---- copies
 
+-- what holds of all holds of what is among them
 all_among : (P : ℕ → Type 0) (xs : List ℕ) → AllByRecursion P xs → (n : ℕ) → is_among n xs ≡ true → P n
 all_among P [] h n q = absurd (false≢true q)
 all_among P (x ∷ xs) h n q = elim (among_cons x xs n q) [ inl e ↦ subst P e h.0 | inr e ↦ all_among P xs h.1 n e ]

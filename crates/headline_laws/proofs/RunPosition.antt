@@ -48,6 +48,7 @@ record From (ch : ℕ) (before : List Bunch) (ms : List Numbered) (xs : List Bun
   pub is : xs ≡ all_bunches ch done ++ rest
   pub kept : kept_of (before ++ xs) ≡ kept_here ch later i
 
+-- nothing is made of nothing
 nil_of : {A : Type 0} (xs ys : List A) → xs ++ ys ≡ [] → xs ≡ []
 nil_of [] ys e = refl
 nil_of (x ∷ xs) ys e = absurd (cc)
@@ -60,6 +61,7 @@ tail_same (u ∷ us) xs ys e = tail_same us xs ys (same_tail u (us ++ xs) (us ++
     same_tail : (u : Bunch) (xs ys : List Bunch) → u ∷ xs ≡ u ∷ ys → xs ≡ ys
     same_tail u xs ys e = cc
 
+-- a prefix of bunches has its place among messages
 located : (ch : ℕ) (before : List Bunch) → kept_of before ≡ [] → (ms : List Numbered) (xs ys : List Bunch) → all_bunches ch ms ≡ xs ++ ys → From ch before ms xs
 located ch before k [] xs ys e =
     let none : xs ≡ [] = nil_of xs ys (sym e) in

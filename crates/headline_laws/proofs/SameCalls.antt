@@ -12,6 +12,7 @@ use Rattle.connection_laws.specs.Delivered.{Numbered, numbered_in, messages_on, 
 use Rattle.headline_laws.specs.Turns.{HandsSame}
 use Rattle.headline_laws.proofs.NextInTurn.{map_reverse}
 
+-- finding in a list reversed
 found_reverse : {A B : Type 0} (f : A → Option B) (xs : List A) → filter_map f (reverse xs) ≡ reverse (filter_map f xs)
 found_reverse f [] = refl
 found_reverse {A} {B} f (x ∷ xs) =
@@ -25,6 +26,7 @@ found_reverse {A} {B} f (x ∷ xs) =
     by None = nothing (reverse (filter_map f xs))
     by (Some y) = sym (reverse-append (y ∷ []) (filter_map f xs))
 
+-- the calls handed on are those of the messages handed on
 handed_calls : (ch : ℕ) (ds : List Delivered) → filter_map (handed_in ch) ds ≡ filter_map asked_in (map (λ (d : Delivered). d.message) (filter (λ (d : Delivered). d.channel == ch && d.reliable) ds))
 handed_calls ch [] = refl
 handed_calls ch (d ∷ ds) = by (d.channel == ch && d.reliable) (handed_calls ch ds)
@@ -35,6 +37,7 @@ handed_calls ch (d ∷ ds) = by (d.channel == ch && d.reliable) (handed_calls ch
     by true e = ap (cons_option (asked_in d.message)) e
     by false e = e
 
+-- the calls queued are those of the messages made
 queued_calls : (ch : ℕ) (past : Past) → filter_map (queued_in ch) past ≡ filter_map asked_in (map (λ (x : Numbered). x.1) (filter_map (numbered_in ch) past))
 queued_calls ch [] = refl
 queued_calls ch (Made c n m i ∷ past) = by (c == ch && i == 0) (queued_calls ch past)
@@ -50,12 +53,14 @@ queued_calls ch (Sent n t items ∷ past) = queued_calls ch past
 queued_calls ch (Took n es ds ∷ past) = queued_calls ch past
 queued_calls ch (Ended g ∷ past) = queued_calls ch past
 
+-- so of a past that hands on
 handed_is : (past : Past) (ch : ℕ) → handed_on past ch ≡ filter_map asked_in (map (λ (d : Delivered). d.message) (handed_reliably past ch))
 handed_is past ch =
     ap reverse (handed_calls ch (delivered_of past))
     ∙ sym (found_reverse asked_in (map (λ (d : Delivered). d.message) (filter (λ (d : Delivered). d.channel == ch && d.reliable) (delivered_of past))))
     ∙ ap (filter_map asked_in) (sym (map_reverse (λ (d : Delivered). d.message) (filter (λ (d : Delivered). d.channel == ch && d.reliable) (delivered_of past))))
 
+-- so of a past that makes
 queued_is : (past : Past) (ch : ℕ) → queued_on past ch ≡ filter_map asked_in (map (λ (x : Numbered). x.1) (messages_on past ch))
 queued_is past ch =
     ap reverse (queued_calls ch past)

@@ -96,6 +96,7 @@ ClientSays entries classes l r = EachDeed (ClientDeed entries classes l) r
 
 -- ---- the server goes on
 
+-- a known call stays so
 known_later : (entries : List Entry) (classes : ℕ → Class) (l later : Past) → ((a : ℕ) → was_opened l a ≡ true → was_opened later a ≡ true) → (m : Message) → CallKnown entries classes l m → CallKnown entries classes later m
 known_later entries classes l later o (Calls a n call args) h = (h.0, o a h.1)
 known_later entries classes l later o (Opens exports a class values) h = h
@@ -103,6 +104,7 @@ known_later entries classes l later o (Closes a sleeps) h = h
 known_later entries classes l later o (Updates a class values) h = h
 known_later entries classes l later o (Gone a) h = h
 
+-- so does an item
 item_later : (entries : List Entry) (classes : ℕ → Class) (l later : Past) → ((a : ℕ) → was_opened l a ≡ true → was_opened later a ≡ true) → (item : Item) → ClientItem entries classes l item → ClientItem entries classes later item
 item_later entries classes l later o (Owed n) h = h
 item_later entries classes l later o (Carries c n b) h = h
@@ -132,6 +134,7 @@ user_zero (x ∷ ms) h = by x.1 refl h.0 (user_zero ms h.1)
     by (Updates a class values) e g u = absurd (false≢true (sym (ap is_gone e) ∙ g))
     by (Calls a n call args) e g u = absurd (false≢true (sym (ap is_gone e) ∙ g))
 
+-- a call that waited is known
 waited_known : (entries : List Entry) (classes : ℕ → Class) (l r : Past) (m : Message) → ClientSays entries classes l r → (newer older : List Message) → filter_map waits_in r ≡ newer ++ m ∷ older → CallKnown entries classes l m
 waited_known entries classes l r m h newer older e = at newer (subst (AllByRecursion (CallKnown entries classes l)) e (all r h))
   where
@@ -269,6 +272,7 @@ call_through entries is classes left l ch (Closes a sleeps) side facts h = absur
 call_through entries is classes left l ch (Updates a class values) side facts h = absurd h
 call_through entries is classes left l ch (Gone a) side facts h = absurd h
 
+-- a call is in its place at a server
 call_placed : (entries : List Entry) (classes : ℕ → Class) (l : Past) (ch n : ℕ) (m : Message) (i : ℕ) → (ch == 0) ≡ false → CallKnown entries classes l m → is_misplaced AtServer (made_bunch ch n m i) ≡ false
 call_placed entries classes l ch n (Calls a x call args) i above h = server_placed ch n a x call args i above
 call_placed entries classes l ch n (Opens exports a class values) i above h = absurd h
@@ -276,6 +280,7 @@ call_placed entries classes l ch n (Closes a sleeps) i above h = absurd h
 call_placed entries classes l ch n (Updates a class values) i above h = absurd h
 call_placed entries classes l ch n (Gone a) i above h = absurd h
 
+-- so is a bunch that was made
 found_placed : (entries : List Entry) (classes : ℕ → Class) (l r : Past) (ch n : ℕ) (b : Bunch) → ClientSays entries classes l r → newest_of (made_as ch n) r ≡ Some b → is_misplaced AtServer b ≡ false
 found_placed entries classes l [] ch n b f e = absurd (let no : (let o : Option Bunch = None in o) ≡ Some b = e in cc)
 found_placed entries classes l (Made c k m i ∷ past) ch n b f e = by ((c == ch) && (k == n)) e (λ q. found_placed entries classes l past ch n b f.1 q)

@@ -71,6 +71,7 @@ shown_passes test sight a h = by (seen_in sight a) refl h
 
 -- ---- the last class that an actor was opened with
 
+-- an opened actor is known, by its class
 opened_says : (entries : List Entry) (classes : ℕ → Class) (side : Side) (past : Past) (a : ℕ) (class : Class) → PastTells entries classes side past → opened_class past a ≡ Some class → (class ≡ classes a) × IsKnownActor entries classes a
 opened_says entries classes side [] a class t e = absurd (let no : (let o : Option Class = None in o) ≡ Some class = e in cc)
 opened_says entries classes side (Ticked n s ∷ past) a class t e = opened_says entries classes side past a class t.1 e

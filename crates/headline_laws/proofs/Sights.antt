@@ -143,12 +143,14 @@ pub record Looked (entries : List Entry) (edits before : Edits) (seen : Seen) : 
   pub living : seen.relevant ≡ true → lives before seen.actor ≡ true
   pub dead : seen.destroyed ≡ true → lives before seen.actor ≡ false
 
+-- a sight's entry is of a spawned actor, as the world has it
 record Entered (table : Table) (edits : Edits) (a : ℕ) (seen : Seen) : Type 0 where
   actor : seen.actor ≡ a
   class : seen.class ≡ class_of table edits a
   living : seen.relevant ≡ true → lives edits a ≡ true
   dead : seen.destroyed ≡ true → lives edits a ≡ false
 
+-- each entry of a sight is so
 entered : (table : Table) (edits : Edits) (player : ℕ) (earlier : List ℕ) (a : ℕ) (seen : Seen) → entry_of table edits player earlier a ≡ Some seen → Entered table edits a seen
 entered table edits player earlier a seen e = by (is_relevant table edits player a) (not (lives edits a) && is_among a earlier) refl refl e
   where

@@ -30,11 +30,13 @@ use Rattle.connection_laws.proofs.ActorsShown.{all_of_gets}
 
 -- ---- sights
 
+-- a sight's entry is of the actor asked for
 actor_is : (table : Table) (edits : Edits) (player a : ℕ) (seen : Seen) (r d : Bool) → cond r (Some (seen_of table edits player a)) (cond d (Some (destroyed_of table edits a)) None) ≡ Some seen → seen.actor ≡ a
 actor_is table edits player a seen true d h = ap (λ (s : Seen). s.actor) (sym (same_some (seen_of table edits player a) seen h))
 actor_is table edits player a seen false true h = ap (λ (s : Seen). s.actor) (sym (same_some (destroyed_of table edits a) seen h))
 actor_is table edits player a seen false false h = absurd (cc)
 
+-- the sights of a world fit
 seen_fits : (entries : List Entry) (edits : Edits) (player : ℕ) (earlier : List ℕ) → IsTable entries → AreAccepted (table_of entries) edits → AllByRecursion SeenFits (sight (table_of entries) edits player earlier)
 seen_fits entries edits player earlier is ok = all_of_gets SeenFits (sight (table_of entries) edits player earlier) one
   where
@@ -65,6 +67,7 @@ FeedsFit p = AllByRecursion EventFits p.server_feed × AllByRecursion EventFits 
 abbrev pub Keeps : (Player → Reported) → Type 0
 Keeps does = (p : Player) → FeedsFit p → FeedsFit (does p).0
 
+-- an event that fits leaves it so
 event_keeps : (side : Side) (event : Event) (p : Player) → EventFits event → FeedsFit p → FeedsFit (with_event side event p)
 event_keeps AtServer event p e h = ((e, h.0), h.1)
 event_keeps AtClient event p e h = (h.0, (e, h.1))
@@ -74,6 +77,7 @@ pub told_keeps : (side : Side) (count : ℕ) (p : Player) → FeedsFit p → Fee
 told_keeps AtServer count p h = h
 told_keeps AtClient count p h = h
 
+-- so does a datagram, if there is one
 delivery_by : (table : Table) (edits : Edits) (side : Side) (k : ℕ) (p : Player) → FeedsFit p → (o : Option (List ℕ)) → FeedsFit (let told : Reported = elim o [
   | None ↦ (p, Answered side p.number k Absent ∷ [])
   | Some bytes ↦ (if nat_lt (k + 8192) (top_of (past_at table side p)) then (p, Answered side p.number k Late ∷ [])
@@ -88,34 +92,41 @@ delivery_by table edits side k p h (Some bytes) =
 pub delivery_keeps : (table : Table) (edits : Edits) (side : Side) (k : ℕ) → Keeps (after_delivery table edits side k)
 delivery_keeps table edits side k p h = delivery_by table edits side k p h (slice_get (out_at table (other_side side) p) (k - 1))
 
+-- so do deliveries
 deliveries_keep : (table : Table) (edits : Edits) (side : Side) (ks : List ℕ) (told : Reported) → FeedsFit told.0 → FeedsFit (fold (also_delivery table edits side) told ks).0
 deliveries_keep table edits side [] told h = h
 deliveries_keep table edits side (k ∷ ks) told h = deliveries_keep table edits side ks (also_delivery table edits side told k) (delivery_keeps table edits side k told.0 h)
 
+-- so do deliveries of new packets
 new_keeps : (table : Table) (edits : Edits) (side : Side) (every : ℕ) → Keeps (after_new_deliveries table edits side every)
 new_keeps table edits side every p h =
     deliveries_keep table edits side (filter (is_kept every) (range_with_len (told_before side p + 1) (length (out_at table (other_side side) p) - told_before side p)))
     (with_told side (length (out_at table (other_side side) p)) p, []) (told_keeps side (length (out_at table (other_side side) p)) p h)
 
+-- so does a tick
 tick_keeps : (entries : List Entry) (edits : Edits) (side : Side) → IsTable entries → AreAccepted (table_of entries) edits → Keeps (after_tick_of (table_of entries) edits side)
 tick_keeps entries edits AtServer is ok p h = ((seen_fits entries edits p.number (earlier_of p) is ok, h.0), h.1)
 tick_keeps entries edits AtClient is ok p h = (h.0, (tt, h.1))
 
 -- ---- all players
 
+-- so where each player does it
 all_do : (does : Player → Reported) → Keeps does → (players : List Player) → AllByRecursion FeedsFit players → AllByRecursion FeedsFit (map (λ (p : Player). (does p).0) players)
 all_do does k [] h = tt
 all_do does k (p ∷ players) h = (k p h.0, all_do does k players h.1)
 
+-- so where one player does
 one_does : (does : Player → Reported) (who : ℕ) → Keeps does → (players : List Player) → AllByRecursion FeedsFit players → AllByRecursion FeedsFit (map (λ (p : Player). if p.number == who then (does p).0 else p) players)
 one_does does who k [] h = tt
 one_does does who k (p ∷ players) h = (cond_both (p.number == who) (does p).0 p FeedsFit (λ e. k p h.0) (λ e. h.0), one_does does who k players h.1)
 
+-- so when a player joins
 all_joined : (before : Player → Player → Bool) (new : Player) (players : List Player) → FeedsFit new → AllByRecursion FeedsFit players → AllByRecursion FeedsFit (insert_in_order before new players)
 all_joined before new [] one h = (one, tt)
 all_joined before new (p ∷ players) one h =
     cond_both (before p new) (p ∷ insert_in_order before new players) (new ∷ p ∷ players) (AllByRecursion FeedsFit) (λ e. (h.0, all_joined before new players one h.1)) (λ e. (one, h))
 
+-- so does a line
 line_keeps : (entries : List Entry) (story : Story) (line : Line) → IsTable entries → AreAccepted (table_of entries) story.edits → AllByRecursion FeedsFit story.players → AllByRecursion FeedsFit (after_line (table_of entries) story line).0.players
 line_keeps entries story (Join player budget version) is ok h = all_joined (λ (one : Player) (two : Player). nat_lt one.number two.number) (new_player player budget version) story.players (tt, tt) h
 line_keeps entries story (ApplyEdit edit) is ok h = h

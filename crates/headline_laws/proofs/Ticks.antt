@@ -38,6 +38,7 @@ use Rattle.headline_laws.specs.Fits.{SeenFits, ItemFits, start_length, PastFits}
 use Rattle.headline_laws.proofs.ChannelsFit.{due_fits, waiting_short, calls_fit, call_fits, free_below}
 use Rattle.headline_laws.proofs.PacketsFit.{fits_made, closes_fit, PackingFits, offers_fit, actor_fits, actors_seen, SentFits, all_fit, to_send_fit}
 
+-- how many bits a message takes
 abbrev length_of : Message → ℕ
 length_of m = length (message_bits m)
 
@@ -46,17 +47,21 @@ length_of m = length (message_bits m)
 mod_low : (n : ℕ) → nat_lt (n % 16384) 16384 ≡ true
 mod_low n = lt-ltb (n % 16384) 16384 (mod_below n 16384 (omega arith))
 
+-- an acknowledgement fits
 owed_one : (n : ℕ) → ItemFits One (Owed n)
 owed_one n = (mod_low n, omega (arith, power_width 14 (n % 16384) (omega arith)))
 
+-- so do acknowledgements
 owed_fit_in : (ns : List ℕ) → AllByRecursion (ItemFits One) (map (λ (n : ℕ). Owed n) ns)
 owed_fit_in [] = tt
 owed_fit_in (n ∷ ns) = (owed_one n, owed_fit_in ns)
 
+-- so do those that are owed
 owed_fits : (v : Version) (past : Past) → AllByRecursion (ItemFits v) (map (λ (n : ℕ). Owed n) (owed_of v past))
 owed_fits One past = owed_fit_in (owed_of One past)
 owed_fits Two past = tt
 
+-- so do the first items of a tick
 first_fit : (end : End) (before now : Past) → PastFits end before → PastFits end now → AllByRecursion (ItemFits end.version) (first_items end before now)
 first_fit end before now b n =
     all_append (ItemFits end.version) (map (λ (k : ℕ). Owed k) (owed_of end.version before) ++ due_items now) (filter_map (call_item end.side now) (waiting_of before))
@@ -65,13 +70,16 @@ first_fit end before now b n =
 
 -- ---- actors
 
+-- 8,705 indexes can be spelled
 limit_high : (v : Version) (n : ℕ) → n ≤ 8705 → n < channel_limit v
 limit_high One n h = omega (arith, h)
 limit_high Two n h = omega (arith, h)
 
+-- the free index can be spelled
 low_index : (end : End) (past : Past) → IsRun end past → PastFits end past → free_index past < channel_limit end.version
 low_index end past run f = limit_high end.version (free_index past) (free_below end past 8192 refl f (spans_fit end past run).sum)
 
+-- so do the items of actors
 actors_fit : (end : End) (start : ℕ) (p : Packing) (actors : List Seen) → AllByRecursion (SeenNow p.past) actors → PacksOn end (IsRun end) p [] → PackingFits end start p → AllByRecursion SeenFits actors → PackingFits end start (fold (after_actor end) p actors)
 actors_fit end start p [] now packs h s = h
 actors_fit end start p (seen ∷ actors) now packs h s =
@@ -124,6 +132,7 @@ pub meant : (side : Side) (n : ℕ) (args : List Arg) (o : Option Class) (call :
 meant side n args None call e = absurd (let no : (let o : Option Call = None in o) ≡ Some call = e in cc)
 meant side n args (Some class) call e = (class, refl, e)
 
+-- a call that fits is one of the class, with arguments that fit
 fitting : (side : Side) (n : ℕ) (args : List Arg) (class : Class) (call : Call) → fitting_call side n args class ≡ Some call → (call_at class n ≡ Some call) × (args_fit call.args args ≡ true)
 fitting side n args class call e = by (call_at class n) refl e
   where
@@ -150,6 +159,7 @@ call_short side past a n args call know e =
     limit_most true = omega arith
     limit_most false = omega arith
 
+-- an unreliable call has one part
 loose_short : (side : Side) (past : Past) (a n : ℕ) (args : List Arg) (call : Call) → CallsKnow side past → call_of side past a n args ≡ Some call → call.reliable ≡ false → length_of (Calls a n call args) ≤ 7000
 loose_short side past a n args call know e loose =
     let m = meant side n args (call_class side past a) call e in
@@ -158,6 +168,7 @@ loose_short side past a n args call know e loose =
     let short : length_of (Calls a n call args) ≤ 49 + 6900 = subst (λ (r : Bool). length_of (Calls a n call args) ≤ 49 + args_limit r) loose bits in
     omega (arith, short)
 
+-- a past fits after a call is queued
 queued_fits : (end : End) (side : Side) (past : Past) (a n : ℕ) (args : List Arg) → PastFits end past → CallsKnow side past → (o : Option ℕ) → call_channel side past a ≡ o → (c : Option Call) → call_of side past a n args ≡ c → PastFits end (queued_for past a n args o c)
 queued_fits end side past a n args f know None q c e = f
 queued_fits end side past a n args f know (Some ch) q None e = f
@@ -166,6 +177,7 @@ queued_fits end side past a n args f know (Some ch) q (Some call) e =
     (λ r. fits_made end past ch (Calls a n call args) f (call_fits end side past a ch f q) tt (call_short side past a n args call know e))
     (λ r. (loose_short side past a n args call know e r, f))
 
+-- a past fits after a call is answered
 answer_fits : (end : End) (past : Past) (a n : ℕ) (args : List Arg) → PastFits end past → CallsKnow end.side past → (answer : CallAnswer) → PastFits end (after_answer end.side past a n args answer)
 answer_fits end past a n args f know Queued = queued_fits end end.side past a n args f know (call_channel end.side past a) refl (call_of end.side past a n args) refl
 answer_fits end past a n args f know Dead = f

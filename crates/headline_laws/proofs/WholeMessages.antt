@@ -41,9 +41,11 @@ pub record Row (past : Past) (ch : ℕ) : Type 0 where
   pub count : made_count past ch ≡ parts_in (on_index ch past)
   pub row : InRow (on_index ch past)
 
+-- it stays so where messages and counts do
 row_like : (past later : Past) → ((ch : ℕ) → made_count later ch ≡ made_count past ch) → ((ch : ℕ) → on_index ch later ≡ on_index ch past) → ((ch : ℕ) → Row past ch) → (ch : ℕ) → Row later ch
 row_like past later c n h ch = record { count = c ch ∙ (h ch).count ∙ ap parts_in (sym (n ch)); row = subst InRow (sym (n ch)) (h ch).row }
 
+-- it stays so after a message
 row_made : (past : Past) (c : ℕ) (m : Message) → ((ch : ℕ) → Row past ch) → (ch : ℕ) → Row (after_making past c m) ch
 row_made past c m h ch = elim (cases_eq c ch) [
   | inl e ↦ subst (Row (after_making past c m)) e same
@@ -97,6 +99,7 @@ longer {A} (x ∷ xs) ys (u ∷ us) vs e h =
 
 -- ---- what was applied is as long as its numbers say
 
+-- a bunch that was received is found
 found : (got : List Received) (n : ℕ) → has got n ≡ true → (b : Bunch) × (newest_of (as_number n) got ≡ Some b)
 found [] n h = absurd (false≢true h)
 found (r ∷ got) n h = by (r.0 == n) refl (λ t. found got n t)
@@ -111,6 +114,7 @@ found (r ∷ got) n h = by (r.0 == n) refl (λ t. found got n t)
     by true q ih = (r.1, refl)
     by false q ih = ih (later q)
 
+-- a run in which each was received is as long as its count
 run_length : (got : List Received) (count from : ℕ) → ((i : ℕ) → from ≤ i → i < from + count → has got i ≡ true) → length (run_of got from count) ≡ count
 run_length got zero from h = refl
 run_length got (suc count) from h =
@@ -177,6 +181,7 @@ arrived_below v end from to run core ch n h = elim (cases_lt n (next_of (receive
 
 -- ---- each message is short
 
+-- each message on an index is short
 short_in : (end : End) (past : Past) (ch : ℕ) → PastFits end past → AllByRecursion (λ (made : Numbered). length (message_bits made.1) ≤ 70000) (on_index ch past)
 short_in end [] ch f = tt
 short_in end (Made c n m i ∷ past) ch f = by (c == ch && i == 0) (short_in end past ch f.1)
