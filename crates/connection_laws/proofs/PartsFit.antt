@@ -17,7 +17,7 @@ use Rattle.connection_laws.proofs.Spans.{some_parts}
 use Rattle.connection_laws.proofs.Prefixes.{bunches_of, cut_in_parts}
 use Rattle.connection_laws.proofs.PartsJoin.{last_ends, middle_goes_on}
 
--- ---- a beginning of what joins joins
+-- ---- a prefix of what joins joins
 
 -- a run that joins begins with one that does
 joins_begin : (xs ys kept : List Bunch) → JoinsFrom kept (xs ++ ys) → JoinsFrom kept xs

@@ -1,4 +1,4 @@
--- Parts of a message are joined to the message; a beginning of parts makes a beginning of messages.
+-- Parts of a message are joined to the message; a prefix of parts makes a prefix of messages.
 use Rattle.std.proofs.Common.{◌≡◌, inl, inr, ℕ, zero, suc, ◌+◌, ◌*◌, ◌<◌, ◌≤◌, ◌==◌, List, [], ◌∷◌, ◌++◌, map, reverse, take, drop, length, Bool, true, false, cond, nat_le, refl, sym, ap, ◌∙◌, subst, arith, take-add}
 use Rattle.std.specs.List.{flat_map, range_with_len}
 use Rattle.std.proofs.lemmas.Bool.{cases_Bool, eq-eqb, ne_eqb, eqb-false, leb-true}
@@ -112,7 +112,7 @@ module _ (ch n : ℕ) (m : Message) (rest : List Bunch) where
 
 -- ---- all of them
 
--- a beginning of bunches makes a beginning of payloads
+-- a prefix of bunches makes a prefix of payloads
 wholes_begin : (xs ys kept : List Bunch) → IsPrefix (wholes_from kept xs) (wholes_from kept (xs ++ ys))
 wholes_begin [] ys kept = (wholes_from kept ys, refl)
 wholes_begin (x ∷ xs) ys kept = by (ends_payload x) (wholes_begin xs ys []) (wholes_begin xs ys (x ∷ kept))

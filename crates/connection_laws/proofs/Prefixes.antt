@@ -1,4 +1,4 @@
--- What was applied is a beginning of what was made, and what is joined of it of the messages.
+-- What was applied is a prefix of what was made, and what is joined of it of the messages.
 use Rattle.std.proofs.Common.{◌≡◌, inl, inr, ℕ, zero, suc, ◌+◌, ◌-◌, ◌<◌, ◌≤◌, ◌==◌, ◌&&◌, List, [], ◌∷◌, ◌++◌, map, reverse, Bool, true, false, cond, refl, sym, ap, ◌∙◌, subst, arith, Option, Some}
 use Rattle.std.specs.List.{filter_map, flat_map, cons_option, slice_get, range_with_len}
 use Rattle.std.specs.Bool.{then_some}

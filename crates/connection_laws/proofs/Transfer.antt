@@ -23,7 +23,7 @@ use Rattle.connection_laws.proofs.AcksTaken.{done_taken}
 use Rattle.connection_laws.proofs.Receiving.{has, Good, InSpan, After, received_after, MadeFacts, made_facts}
 use Rattle.connection_laws.proofs.NearNumber.{near_number}
 
--- of the packet under way, what was heard is the beginning of what it said, and its bunches were received
+-- of the packet under way, what was heard is a prefix of what it said, and its bunches were received
 abbrev pub Way : Version → (from to : Past) → Type 0
 Way v from (Took k es ds ∷ past) =
     (es ≡ reverse (map entry_said (take (length es) (said_by v from k))))

@@ -62,7 +62,7 @@ parts_split ch first m i n =
 from_length : (ch first : ℕ) (m : Message) (i n : ℕ) → length (bunches_from ch first m i n) ≡ n
 from_length ch first m i n = map_length (λ j. made_bunch ch (first + j) m j) (range_with_len i n) ∙ range_length n i
 
--- the bunches after the beginning of the next message
+-- the bunches after the first parts of the next message
 pub rest_after : (ch : ℕ) (ms : List Numbered) (i : ℕ) (rest more : List Bunch) → HasBegun ch ms i rest → rest ++ more ≡ all_bunches ch ms → more ≡ rest_of ch ms i
 rest_after ch [] i rest more b e = by rest b e
   where
@@ -98,13 +98,13 @@ wholes_are ch (made ∷ done) later i rest b =
     ap (wholes_from []) (append_assoc (bunches_of ch made.0 made.1) (all_bunches ch done) rest) ∙ wholes_join ch made.0 made.1 (all_bunches ch done ++ rest)
     ∙ ap (λ (ws : List (Bunch × List Bool)). payload_of ch made ∷ ws) (wholes_are ch done later i rest b)
 
--- two beginnings of one length are one
-pub same_front : {A : Type 0} (xs ys us vs : List A) → xs ++ ys ≡ us ++ vs → length xs ≡ length us → xs ≡ us
-same_front [] ys [] vs e l = refl
-same_front [] ys (u ∷ us) vs e l = absurd (omega (arith, l))
-same_front (x ∷ xs) ys [] vs e l = absurd (omega (arith, l))
-same_front {A} (x ∷ xs) ys (u ∷ us) vs e l =
-    ap (λ (zs : List A). x ∷ zs) (same_front xs ys us vs (same_tail x u (xs ++ ys) (us ++ vs) e) (omega (arith, l)))
+-- two prefixes of one length are one
+pub same_prefix : {A : Type 0} (xs ys us vs : List A) → xs ++ ys ≡ us ++ vs → length xs ≡ length us → xs ≡ us
+same_prefix [] ys [] vs e l = refl
+same_prefix [] ys (u ∷ us) vs e l = absurd (omega (arith, l))
+same_prefix (x ∷ xs) ys [] vs e l = absurd (omega (arith, l))
+same_prefix {A} (x ∷ xs) ys (u ∷ us) vs e l =
+    ap (λ (zs : List A). x ∷ zs) (same_prefix xs ys us vs (same_tail x u (xs ++ ys) (us ++ vs) e) (omega (arith, l)))
     ∙ ap (λ (z : A). z ∷ us) (same_head x u (xs ++ ys) (us ++ vs) e)
   where
     same_head : (x y : A) (xs ys : List A) → x ∷ xs ≡ y ∷ ys → x ≡ y
@@ -240,7 +240,7 @@ module _ (end : End) (k : ℕ) (es : List Entry) (past : Past) (ch : ℕ) (made_
       same_done =
           let mapped : map (payload_of ch) position.done ≡ map (payload_of ch) (done ds s) =
           sym (wholes_are ch position.done position.later position.i position.rest position.begun) ∙ ap (wholes_from []) (sym position.is) ∙ whole in
-          same_front position.done position.later (done ds s) split.0 (sym position.split ∙ split.1)
+          same_prefix position.done position.later (done ds s) split.0 (sym position.split ∙ split.1)
           (sym (length-map position.done (payload_of ch)) ∙ ap length mapped ∙ length-map (done ds s) (payload_of ch))
 
       nothing_new : (o : Offer) → offer_of got (number_as got b) ≡ o → reliable_result end now b got o ≡ record { past = now; cause = None } → applied_of (with_offer got b o) ≡ applied_of got → CarriedHeard ds b

@@ -33,7 +33,7 @@ use Rattle.headline_laws.specs.Whole.{MadeAt}
 use Rattle.headline_laws.proofs.CopiesGoOn.{agrees_on}
 use Rattle.headline_laws.proofs.ReceivedFirst.{parts_append, clear_at}
 use Rattle.headline_laws.proofs.Following.{copy_stays}
-use Rattle.headline_laws.proofs.PlaceByNumber.{all_mid, all_front, place_at, number_is, behind_next}
+use Rattle.headline_laws.proofs.PlaceByNumber.{all_mid, all_prefix, place_at, number_is, behind_next}
 use Rattle.headline_laws.proofs.MarksInOrder.{made_low}
 use Rattle.headline_laws.proofs.NextPasses.{each_made, exports_in, path_stands, close_finds, ServerFacts, Ready, Comes, at_turn, CanHand}
 use Rattle.headline_laws.proofs.Reopened.{marks_it, new_mark, marks_made, marks_at, IsMade}
@@ -348,7 +348,7 @@ module _ (entries : List Entry) (is_table : IsTable entries) (classes : ℕ → 
   done_still ks h = all_weaker (IsDone l r f.hands) (IsDone l later now) (λ z q. still_done l r later d applied f.hands ch made next on reliable is z q) ks h
 
   made_newer : (b : ℕ) → AllByRecursion (IsMade l) (f.marks b).newer
-  made_newer b = all_front (IsMade l) (f.marks b).newer (f.marks b).older (subst (AllByRecursion (IsMade l)) (f.marks b).split (marks_at b l))
+  made_newer b = all_prefix (IsMade l) (f.marks b).newer (f.marks b).older (subst (AllByRecursion (IsMade l)) (f.marks b).split (marks_at b l))
 
   -- the marks of an actor that the message doesn't mark
   others_follow : (b : ℕ) → ((actor_of made.1 == b) && is_mark made.1) ≡ false → MarksFollow l later now b
@@ -358,7 +358,7 @@ module _ (entries : List Entry) (is_table : IsTable entries) (classes : ℕ → 
     split = (f.marks b).split;
     ahead = ahead_still b (f.marks b).newer (made_newer b) (f.marks b).ahead
         (all_weaker (λ (z : Mark). (actor_of z.message ≡ b) × (is_mark z.message ≡ true)) (λ (z : Mark). z.channel ≡ ch → (z.number, z.message) ≡ made → ⊥) (λ z q c e. other z q e) (f.marks b).newer
-        (all_front (λ (z : Mark). (actor_of z.message ≡ b) × (is_mark z.message ≡ true)) (f.marks b).newer (f.marks b).older (subst (AllByRecursion (λ (z : Mark). (actor_of z.message ≡ b) × (is_mark z.message ≡ true))) (f.marks b).split (come_all b (marks_of l b) (facts.come b)))));
+        (all_prefix (λ (z : Mark). (actor_of z.message ≡ b) × (is_mark z.message ≡ true)) (f.marks b).newer (f.marks b).older (subst (AllByRecursion (λ (z : Mark). (actor_of z.message ≡ b) × (is_mark z.message ≡ true))) (f.marks b).split (come_all b (marks_of l b) (facts.come b)))));
     done = done_still (f.marks b).older (f.marks b).done;
     copy = (let s = copy_same r later d applied made.1 is b quiet in copy_stays r later b s.0 s.1 (f.marks b).older (f.marks b).copy);
   }
@@ -380,8 +380,8 @@ module _ (entries : List Entry) (is_table : IsTable entries) (classes : ℕ → 
         newer = t.front;
         older = record { channel = ch; number = made.0; message = made.1 } ∷ (f.marks b).older;
         split = all;
-        ahead = ahead_still b t.front (all_front (IsMade l) t.front (record { channel = ch; number = made.0; message = made.1 } ∷ []) (subst (AllByRecursion (IsMade l)) t.is (made_newer b)))
-            (all_front (IsAhead l r f.hands) t.front (record { channel = ch; number = made.0; message = made.1 } ∷ []) (subst (AllByRecursion (IsAhead l r f.hands)) t.is (f.marks b).ahead))
+        ahead = ahead_still b t.front (all_prefix (IsMade l) t.front (record { channel = ch; number = made.0; message = made.1 } ∷ []) (subst (AllByRecursion (IsMade l)) t.is (made_newer b)))
+            (all_prefix (IsAhead l r f.hands) t.front (record { channel = ch; number = made.0; message = made.1 } ∷ []) (subst (AllByRecursion (IsAhead l r f.hands)) t.is (f.marks b).ahead))
             (all_weaker (λ (z : Mark). ch ≡ z.channel → made.0 < z.number) (λ (z : Mark). z.channel ≡ ch → (z.number, z.message) ≡ made → ⊥) (λ z q c e. above z (q (sym c)) (ap (λ (x : Numbered). x.0) e)) t.front fall);
         done = (omega (arith, n, count_here l r later d applied f.hands ch made next on reliable is, some_parts made.1), done_still (f.marks b).older (f.marks b).done);
         copy = subst (λ (c : ℕ). CopyAfter later b c made.1) on

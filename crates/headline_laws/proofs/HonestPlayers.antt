@@ -22,7 +22,7 @@ use Rattle.headline_laws.specs.Placed.{HandsFirst}
 use Rattle.headline_laws.proofs.WholeMessages.{messages_short}
 use Rattle.headline_laws.proofs.Stories.{ends_fit, all_read}
 
--- a beginning of what is mapped is mapped from a beginning
+-- a prefix of what is mapped is mapped from a prefix
 mapped_first : {A B : Type 0} (f : A → B) (ys : List A) (xs zs : List B) → map f ys ≡ xs ++ zs → (a : List A) × ((b : List A) × (ys ≡ a ++ b) × (xs ≡ map f a))
 mapped_first f ys [] zs e = ([], (ys, refl, refl))
 mapped_first f [] (x ∷ xs) zs e = absurd (cc)

@@ -26,7 +26,7 @@ use Rattle.headline_laws.specs.Follows.{parts_in, HandsOnAll, HandsOnWhole}
 use Rattle.headline_laws.specs.Marks.{marks_of}
 use Rattle.headline_laws.specs.Position.{all_bunches}
 use Rattle.headline_laws.specs.Whole.{MadeAt, ArrivedBelow, IsReceived}
-use Rattle.headline_laws.proofs.BunchHandsOn.{same_front, wholes_are}
+use Rattle.headline_laws.proofs.BunchHandsOn.{same_prefix, wholes_are}
 use Rattle.headline_laws.proofs.CameInPackets.{came, made_before}
 use Rattle.headline_laws.proofs.ReceivedFirst.{mark_at, marked_arrived, parts_append, parts_reverse, whole_there}
 use Rattle.headline_laws.proofs.PastGrows.{SaidAt, made_grows, below_grows}
@@ -87,11 +87,11 @@ user_stays a (x ∷ xs) tail b u h = by x.1 refl b.0 (user_stays a xs tail b.1 u
     by (Calls c n call args) e f u = said (Calls c n call args) e refl u
     by (Gone c) e f u = said (Gone c) e refl u
 
--- one beginning goes on with the other
-two_fronts : (xs ys us vs : List Numbered) → xs ++ ys ≡ us ++ vs → ((es : List Numbered) × (us ≡ xs ++ es)) ⊎ ((e : Numbered) × (es : List Numbered) × (xs ≡ us ++ e ∷ es))
-two_fronts [] ys us vs e = inl (us, refl)
-two_fronts (x ∷ xs) ys [] vs e = inr (x, xs, refl)
-two_fronts (x ∷ xs) ys (u ∷ us) vs e = by (two_fronts xs ys us vs (tail x u (xs ++ ys) (us ++ vs) e)) (head x u (xs ++ ys) (us ++ vs) e)
+-- of two prefixes one goes on from the other
+two_prefixes : (xs ys us vs : List Numbered) → xs ++ ys ≡ us ++ vs → ((es : List Numbered) × (us ≡ xs ++ es)) ⊎ ((e : Numbered) × (es : List Numbered) × (xs ≡ us ++ e ∷ es))
+two_prefixes [] ys us vs e = inl (us, refl)
+two_prefixes (x ∷ xs) ys [] vs e = inr (x, xs, refl)
+two_prefixes (x ∷ xs) ys (u ∷ us) vs e = by (two_prefixes xs ys us vs (tail x u (xs ++ ys) (us ++ vs) e)) (head x u (xs ++ ys) (us ++ vs) e)
   where
     head : (x y : Numbered) (xs ys : List Numbered) → x ∷ xs ≡ y ∷ ys → x ≡ y
     head x y xs ys e = cc
@@ -156,7 +156,7 @@ module _ (left right : End) (l : Past) (k : ℕ) (es : List Entry) (ds : List De
     | inl q ↦ (
         let p = position_there left right l (Took k es ds ∷ past) same link ch in
         let mapped : map (payload_of ch) p.done ≡ map (payload_of ch) (hands ch).done = sym (wholes_are ch p.done p.later p.i p.rest p.begun) ∙ ap (wholes_from []) (sym p.is) ∙ whole ch in
-        let are : p.done ≡ (hands ch).done = same_front p.done p.later (hands ch).done (hands ch).later (sym p.split ∙ (hands ch).split)
+        let are : p.done ≡ (hands ch).done = same_prefix p.done p.later (hands ch).done (hands ch).later (sym p.split ∙ (hands ch).split)
         (sym (length-map p.done (payload_of ch)) ∙ ap length mapped ∙ length-map (hands ch).done (payload_of ch)) in
         let long : parts_in (hands ch).done < next_of (received_on (Took k es ds ∷ past) ch) =
         omega (arith, applied_length (received_on (Took k es ds ∷ past) ch), ap length p.is, length-append (all_bunches ch p.done) p.rest, bunches_length ch p.done, ap parts_in are, next_low (received_on (Took k es ds ∷ past) ch)) in
@@ -167,7 +167,7 @@ module _ (left right : End) (l : Past) (k : ℕ) (es : List Entry) (ds : List De
 
   -- what was handed on was made by then
   by_then : (rest : List Numbered) × (messages_on at.before ch ≡ (hands ch).done ++ rest)
-  by_then = elim (two_fronts (hands ch).done (hands ch).later (messages_on at.before ch) (reverse (at.at.grows.made ch).0)
+  by_then = elim (two_prefixes (hands ch).done (hands ch).later (messages_on at.before ch) (reverse (at.at.grows.made ch).0)
       (sym (hands ch).split ∙ ap reverse (at.at.grows.made ch).1 ∙ reverse-append (at.at.grows.made ch).0 (on_index ch at.before))) [
         | inl r ↦ r
         | inr r ↦ absurd (omega (arith, few, count_is left at.before at.at.run ch, ap parts_in r.2, parts_append (messages_on at.before ch) (r.0 ∷ r.1), some_parts r.0.1))

@@ -44,7 +44,7 @@ use Rattle.headline_laws.specs.Turns.{ComesNext, FindsNoChannel}
 use Rattle.headline_laws.specs.Whole.{MadeAt}
 use Rattle.headline_laws.proofs.CopiesGoOn.{holder_is_user}
 use Rattle.headline_laws.proofs.ReceivedFirst.{clear_at, parts_append}
-use Rattle.headline_laws.proofs.PlaceByNumber.{cut, all_mid, all_back, at_place, place_at, number_is, marked}
+use Rattle.headline_laws.proofs.PlaceByNumber.{cut, all_mid, all_suffix, at_place, place_at, number_is, marked}
 use Rattle.headline_laws.proofs.Placed.{Rule, rules}
 use Rattle.headline_laws.proofs.RoomForCopies.{room_for}
 use Rattle.headline_laws.proofs.ServerSays.{known_limits}
@@ -155,7 +155,7 @@ pub record AtTurn (l r : Past) (hands : HandsOnAll l r) (a : ℕ) (follow : Mark
 -- what holds of all but the first holds behind it
 second_at : (P : Mark → Type 0) (xs : List Mark) (y z : Mark) (zs : List Mark) → AllByRecursion P (without_newest (xs ++ y ∷ z ∷ zs)) → P z
 second_at P [] y z zs h = h.0
-second_at P (x ∷ xs) y z zs h = (all_back P xs (y ∷ z ∷ zs) h).1.0
+second_at P (x ∷ xs) y z zs h = (all_suffix P xs (y ∷ z ∷ zs) h).1.0
 
 -- a mark comes in turn in its place
 come_at : (a : ℕ) (xs : List Mark) (y : Mark) (zs : List Mark) → MarksCome a (xs ++ y ∷ zs) → MarkComes y y.message zs
@@ -192,7 +192,7 @@ at_turn left l r run hands ready ch made next a come follow same it =
     never front z rest older e s m c = by m c
       where
         ahead : parts_in (hands z.channel).done < z.number
-        ahead = (all_back (IsAhead l r hands) front (record { channel = ch; number = made.0; message = made.1 } ∷ z ∷ rest) (subst (AllByRecursion (IsAhead l r hands)) e follow.ahead)).1.0
+        ahead = (all_suffix (IsAhead l r hands) front (record { channel = ch; number = made.0; message = made.1 } ∷ z ∷ rest) (subst (AllByRecursion (IsAhead l r hands)) e follow.ahead)).1.0
 
         closed : is_closing z.message ≡ true → ⊥
         closed q =

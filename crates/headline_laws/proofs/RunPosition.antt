@@ -1,4 +1,4 @@
--- A beginning of messages' bunches is whole messages and some parts of the next one.
+-- A prefix of messages' bunches is whole messages and some parts of the next one.
 use Rattle.std.proofs.Common.{◌≡◌, inl, inr, ℕ, zero, suc, ◌+◌, ◌<◌, List, [], ◌∷◌, ◌++◌, map, length, refl, sym, ap, ◌∙◌, arith, append_assoc, append-nil}
 use Rattle.std.specs.List.{range_with_len}
 use Rattle.std.proofs.lemmas.Bool.{cases_lt}
@@ -19,7 +19,7 @@ use Rattle.payload_laws.proofs.Keeping.{front_kept, none_kept}
 use Rattle.headline_laws.specs.Position.{all_bunches, HasBegun, kept_here, Position}
 use Rattle.headline_laws.proofs.WholeMessages.{longer, map_length, range_length}
 
--- a beginning of a range that is mapped
+-- a prefix of a range that is mapped
 pub first_of_range : {A : Type 0} (f : ℕ → A) (count from : ℕ) (xs more : List A) → map f (range_with_len from count) ≡ xs ++ more → xs ≡ map f (range_with_len from (length xs))
 first_of_range f count from [] more e = refl
 first_of_range f zero from (x ∷ xs) more e = absurd (cc)

@@ -67,7 +67,7 @@ queued_is past ch =
     ∙ sym (found_reverse asked_in (map (λ (x : Numbered). x.1) (filter_map (numbered_in ch) past)))
     ∙ ap (filter_map asked_in) (sym (map_reverse (λ (x : Numbered). x.1) (filter_map (numbered_in ch) past)))
 
--- the calls handed over are a beginning of those queued
+-- the calls handed over are a prefix of those queued
 pub calls_begin : (from to : Past) → HandsSame from to → (ch : ℕ) → IsPrefix (handed_on to ch) (queued_on from ch)
 calls_begin from to same ch =
     let p = same ch in (

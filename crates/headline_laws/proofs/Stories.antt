@@ -186,7 +186,7 @@ pub readable : (table : Table) (side : Side) (p : Player) → PastFits (end_of t
 readable table AtServer p f k packet e = packets_read (end_of table AtServer p) (past_at table AtServer p) k packet f e
 readable table AtClient p f k packet e = packets_read (end_of table AtClient p) (past_at table AtClient p) k packet f e
 
--- each packet of each player is read back, after each beginning of the lines
+-- each packet of each player is read back, after each prefix of the lines
 pub all_read : (entries : List Entry) (lines : List Line) (n : ℕ) → IsTable entries → AreAccepted (table_of entries) (story_of (table_of entries) lines).0.edits → AllRead (table_of entries) lines n
 all_read entries lines n is ok some rest e p joined number side =
     readable (table_of entries) side p (ends_fit entries some p side is accepted joined)

@@ -79,7 +79,7 @@ rows end past run = always end (λ past. (ch : ℕ) → Row past ch) (λ ch. rec
     step past (Hands d) run alive may h = row_like past (with_handed d past) (made_count_handed d past) (λ ch. handed_ignored (numbered_in ch) (λ n es d ds. refl) d past) h
     step past (Ends ending) run alive may h = row_like past (after_move past (Ends ending)) (λ ch. refl) (λ ch. refl) h
 
--- ---- the longer of two beginnings goes on with the other
+-- ---- the longer of two prefixes goes on from the other
 
 -- of two prefixes the longer goes on from the shorter
 pub longer : {A : Type 0} (xs ys us vs : List A) → xs ++ ys ≡ us ++ vs → length us ≤ length xs → (more : List A) × (xs ≡ us ++ more)
