@@ -2,8 +2,8 @@
 use Rattle.std.proofs.Common.{◌≡◌, sym, ◌∙◌}
 use Rattle.std.specs.Prelude.{Result, Ok, Err, IfOk, OnOk}
 use Rattle.table_model.specs.Checked.{Refusal}
-use Rattle.class_layout.specs.Agreement.{RefusedAs}
-use Rattle.class_layout.specs.declared.refusal.TableRefusal.{TableRefusal}
+use Rattle.class_members.specs.Agreement.{RefusedAs}
+use Rattle.class_members.specs.declared.refusal.TableRefusal.{TableRefusal}
 
 -- what holds of the value of an Ok gives what else holds of it
 pub if_ok : {A E : Type 0} {P Q : A → Type 0} (r : Result A E) → IfOk r P → ((a : A) → P a → Q a) → IfOk r Q

@@ -13,12 +13,12 @@ use Rattle.table_model.specs.Grammar as Grammar
 use Rattle.table_model.specs.Words.{is_name}
 use Rattle.table_model.proofs.Headings.{heading_is}
 use Rattle.table_model.proofs.Types.{are_path_names}
-use Rattle.class_layout.specs.Tables.{prop_of, call_of}
-use Rattle.class_layout.specs.declared.class.Prop.{Prop}
-use Rattle.class_layout.specs.declared.class.Call.{Call}
-use Rattle.class_layout.specs.Agreement.{BreaksAs, RefusedAs, refusal_at}
-use Rattle.class_layout.specs.declared.refusal.Fault.{Fault}
-use Rattle.class_layout.specs.declared.refusal.TableRefusal.{TableRefusal}
+use Rattle.class_members.specs.Members.{prop_of, call_of}
+use Rattle.class_members.specs.declared.members.Prop.{Prop}
+use Rattle.class_members.specs.declared.members.Call.{Call}
+use Rattle.class_members.specs.Agreement.{BreaksAs, RefusedAs, refusal_at}
+use Rattle.class_members.specs.declared.refusal.Fault.{Fault}
+use Rattle.class_members.specs.declared.refusal.TableRefusal.{TableRefusal}
 
 -- the properties of a heading, and its calls, after the inherited ones
 abbrev pub props_read : (k : ℕ) → List Entry → Heading → Result (List Model.Prop) Refusal

@@ -1,17 +1,11 @@
-pub mod Signed
-pub mod Lengths
-pub mod Fitting
-pub mod Back
-pub mod Spelled
+mod Answered
+mod ClassSteps
+mod Few
 pub mod Finding
-pub mod Naming
-pub mod Segments
-pub mod Growing
-pub mod Answered
-pub mod PathSteps
-pub mod Each
-pub mod ArgKinds
-pub mod Parents
-pub mod ClassSteps
-pub mod SoFar
-pub mod Few
+mod Growing
+pub mod InitialValues
+mod Naming
+mod Parents
+mod PathSteps
+mod Segments
+mod SoFar

@@ -1,13 +1,11 @@
 -- Names of a path, compared one by one.
-use Rattle.std.proofs.Common.{◌≡◌, ◌≢◌, ℕ, suc, List, [], ◌∷◌, map, length, Bool, true, false, ◌&&◌, ◌||◌, codes, ◌∙◌, refl, ap, sym, bytes_eq}
+use Rattle.std.proofs.Common.{◌≡◌, ◌≢◌, ℕ, suc, List, [], ◌∷◌, map, length, Bool, true, false, ◌&&◌, refl, ap, sym, bytes_eq}
 use Rattle.std.specs.List.{list_any}
 use Rattle.protocol_model.specs.Value as Model
-use Rattle.table_model.specs.Rules.{same_names, path_names, is_there, call_names, prop_names, class_names, has_path}
-use Rattle.class_layout.specs.Tables.{prop_of, call_of, entry_of, segment_at}
+use Rattle.table_model.specs.Rules.{same_names, path_names, is_there, class_names, has_path}
+use Rattle.class_layout.specs.Tables.{entry_of, segment_at}
 use Rattle.class_layout.specs.declared.class.Class.{Class}
 use Rattle.class_layout.specs.declared.class.Segment.{Segment}
-use Rattle.class_layout.specs.declared.class.Prop.{Prop}
-use Rattle.class_layout.specs.declared.class.Call.{Call}
 
 and_false : (b : Bool) → false ≡ (b && false)
 and_false true = refl
@@ -21,32 +19,6 @@ other_length [] f (g ∷ guids) h = refl
 other_length (n ∷ names) f [] h = refl
 other_length (n ∷ names) f (g ∷ guids) h =
     rw (sym (other_length names f guids (λ e. h (ap (λ m. suc m) e)))) (and_false (bytes_eq n (f g).name))
-
-any_kept : (name : List ℕ) (props : List Prop)
-    → list_any (λ (p : Prop). bytes_eq name p.name) props ≡ is_there
-    (map (λ (p : Model.Prop). p.name) (map prop_of props)) name
-any_kept name [] = refl
-any_kept name (p ∷ props) = rw (any_kept name props) refl
-
-or_behind : (a b c d : Bool) → ((a || (b || c)) || d) ≡ (a || (b || (c || d)))
-or_behind true b c d = refl
-or_behind false true c d = refl
-or_behind false false c d = refl
-
--- the names of properties and of calls, in memory and in the definitions
-pub any_prop : (name : List ℕ) (props : List Prop)
-    → ((bytes_eq name (codes "x") || (bytes_eq name (codes "y") || bytes_eq name (codes "role")))
-    || list_any (λ (p : Prop). bytes_eq name p.name) props)
-    ≡ is_there (prop_names (map prop_of props)) name
-any_prop name props =
-    or_behind (bytes_eq name (codes "x")) (bytes_eq name (codes "y")) (bytes_eq name (codes "role")) _
-    ∙ ap (λ d. bytes_eq name (codes "x") || (bytes_eq name (codes "y") || (bytes_eq name (codes "role") || d)))
-    (any_kept name props)
-
-pub any_call : (name : List ℕ) (calls : List Call)
-    → list_any (λ (c : Call). bytes_eq name c.name) calls ≡ is_there (call_names (map call_of calls)) name
-any_call name [] = refl
-any_call name (c ∷ calls) = rw (any_call name calls) refl
 
 -- the names and paths of classes
 pub any_class : (name : List ℕ) (segments : List Segment) (classes : List Class)

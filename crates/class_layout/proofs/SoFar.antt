@@ -5,12 +5,13 @@ use Rattle.serde_json.specs.Data.{Data}
 use Rattle.table_model.specs.Rules.{Entry, segments_of}
 use Rattle.table_model.specs.Grammar as Grammar
 use Rattle.class_layout.specs.Growing.{IsSoFar}
-use Rattle.class_layout.specs.Tables.{AreOf, Extends, are_tagged, class_of, entry_of, stand_within}
-use Rattle.class_layout.specs.Agreement.{RefusedAs}
+use Rattle.class_layout.specs.Tables.{AreOf, Extends, class_of, entry_of, stand_within}
+use Rattle.class_members.specs.Members.{are_tagged}
+use Rattle.class_members.specs.Agreement.{RefusedAs}
 use Rattle.class_layout.specs.declared.class.Class.{Class}
 use Rattle.class_layout.specs.declared.class.Segment.{Segment}
-use Rattle.class_layout.specs.declared.refusal.TableRefusal.{TableRefusal}
-use Rattle.class_layout.proofs.Each.{turn_of}
+use Rattle.class_members.specs.declared.refusal.TableRefusal.{TableRefusal}
+use Rattle.class_members.proofs.Each.{turn_of}
 use Rattle.class_layout.proofs.PathSteps.{seen_still, within_wider, longer}
 
 -- a fact of each item, and of one more

@@ -1,4 +1,5 @@
--- The classes that were read so far, and the segments of their paths.
+-- A step of the proof of `Classes::read`, not a promise: the classes that were read so far, and the
+-- segments of their paths.
 use Rattle.std.specs.Prelude.{◌≡◌, ℕ, ◌≤◌, List, map, length, IsTrue, Some, slice_get}
 use Rattle.table_model.specs.Rules.{segments_of}
 use Rattle.class_layout.specs.Tables.{AreOf, HaveTags, entry_of, stand_within}

@@ -1,4 +1,5 @@
--- A class's heading in memory as that of the definitions.
+-- A step of the proof of `Classes::read`, not a promise: a class's heading in memory as that of the
+-- definitions.
 use Rattle.std.specs.Prelude.{◌≡◌, ℕ, ◌<◌, ◌^◌, List, map, length, slice_get, Some, IfSome}
 use Rattle.serde_json.specs.Data.{Data}
 use Rattle.table_model.specs.Objects.{class_object}

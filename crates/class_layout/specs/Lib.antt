@@ -1,5 +1,3 @@
-pub mod Values
-pub mod Reading
 pub mod Tables
 pub mod Agreement
 pub mod Headings

@@ -5,9 +5,7 @@ use Rattle.protocol_model.specs.Value as Model
 use Rattle.table_model.specs.Facts.{IsTable}
 use Rattle.table_model.specs.Rules.{Entry, segments_of, guid_in, next_guid, same_names, path_names}
 use Rattle.table_model.specs.Grammar.{table_of}
-use Rattle.class_layout.specs.Values.{whole_of, is_of}
-use Rattle.class_layout.specs.declared.class.Prop.{Prop}
-use Rattle.class_layout.specs.declared.class.Call.{Call}
+use Rattle.class_members.specs.Members.{prop_of, call_of, are_tagged}
 use Rattle.class_layout.specs.declared.class.Class.{Class}
 use Rattle.class_layout.specs.declared.class.Segment.{Segment}
 
@@ -17,14 +15,6 @@ pub record Layout : Type 0 where
   pub classes : List Class
   pub segments : List Segment
   pub digest : List ℕ
-
--- a property
-abbrev pub prop_of : Prop → Model.Prop
-prop_of p = record { name = p.name; kind = p.kind; cond = p.cond; init = whole_of p.init }
-
--- a call
-abbrev pub call_of : Call → Model.Call
-call_of c = record { name = c.name; way = c.way; reliable = c.reliable; args = c.args }
 
 -- the segment of a guid, with nothing in place of one that isn't there
 abbrev pub segment_at : List Segment → ℕ → Model.Segment
@@ -57,15 +47,15 @@ entries_in layout = map (entry_of layout.segments) layout.classes
 abbrev pub table_in : Layout → Model.Table
 table_in layout = table_of (entries_in layout)
 
+-- the class's path has these names
+abbrev pub has_names : List Segment → List (List ℕ) → Class → Bool
+has_names segments names c = same_names names (path_names (map (segment_at segments) c.path))
+
 -- the place of the class that has this path, counted from 0
 abbrev pub place_of_path : List Entry → List (List ℕ) → Option ℕ
 place_of_path entries names = position (λ (e : Entry). same_names names (path_names e.class.path)) entries
 
--- each initial value has its kind's tag
-abbrev pub are_tagged : List Prop → Bool
-are_tagged props = list_all (λ (p : Prop). is_of p.kind p.init) props
-
--- and of each class
+-- the initial values of each class have their kinds' tags
 abbrev pub HaveTags : List Class → Type 0
 HaveTags classes = (i : ℕ) (c : Class) → slice_get classes i ≡ Some c → IsTrue (are_tagged c.props)
 

@@ -1,35 +1,7 @@
-// Classes: their properties, calls and paths.
-use crate::args::Arg;
-use crate::value::Value;
-use net_core::{Guid, GuidList, Handle, Items, Text};
-use protocol_model::{CallVerdict, Cond, Kind, Reach, Way};
-
-/// A property of a class: its initial value is one of its kind.
-#[derive(Debug, Drop)]
-pub struct Prop {
-    pub name: Text,
-    pub kind: Kind,
-    pub cond: Cond,
-    pub init: Value,
-}
-
-/// A list of properties.
-pub type PropList = Items<Prop>;
-
-/// A list of kinds.
-pub type KindList = Items<Kind>;
-
-/// A remote procedure call of a class.
-#[derive(Debug, Drop)]
-pub struct Call {
-    pub name: Text,
-    pub way: Way,
-    pub reliable: bool,
-    pub args: KindList,
-}
-
-/// A list of calls.
-pub type CallList = Items<Call>;
+// Classes and their paths.
+use class_members::{CallList, PropList};
+use net_core::{Guid, GuidList, Items, Text};
+use protocol_model::Reach;
 
 /// A class of a table.
 ///
@@ -59,30 +31,3 @@ pub struct Segment {
 
 /// A list of segments.
 pub type SegmentList = Items<Segment>;
-
-/// A property by its handle, with a value.
-#[derive(Clone, Copy, Debug, PartialEq, Eq)]
-pub struct Pair {
-    pub prop: Handle,
-    pub value: Value,
-}
-
-/// A list of values by handle.
-pub type PairList = Items<Pair>;
-
-/// A list of arguments.
-pub type ArgList = Items<Arg>;
-
-/// A call that was received, for the caller to carry out by its verdict. Its class is the one by
-/// which it was read, and its call is counted from 1 in that class.
-#[derive(Debug, Drop)]
-pub struct Handed {
-    pub actor: Guid,
-    pub class: u16,
-    pub call: u16,
-    pub verdict: CallVerdict,
-    pub args: ArgList,
-}
-
-/// A list of calls that were received.
-pub type HandedList = Items<Handed>;

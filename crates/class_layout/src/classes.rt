@@ -9,23 +9,19 @@ ghost use Rattle.table_model.specs.declared.Place.TheVariants as Place;
 ghost use Rattle.protocol_model.specs.BuiltIn.{built_in_table};
 ghost use Rattle.sha1.specs.Sha1.{sha1};
 ghost use Rattle.class_layout.specs.Tables.{IsLayout, entries_in, place_of_path, table_in};
-ghost use Rattle.class_layout.specs.Agreement.{Reads};
+ghost use Rattle.class_members.specs.Agreement.{Reads};
 
 use crate::class::{Class, ClassList, Segment, SegmentList};
 use crate::read::read_classes;
-use crate::refusal::TableRefusal;
 use crate::search;
+use class_members::TableRefusal;
 use net_core::{Guid, Memory, TextList};
+use protocol_model::limits::{CLASS_LIMIT, TABLE_BYTES};
 use sha1::Sha1;
 use std::alloc::Global;
 use std::marker::Model;
 use table_json::{classes_of, json_of};
 use table_model::{Place, TableWhy};
-
-/// How many bytes a table's file may have, and how many classes a table.
-const FILE_MAX: usize = 1_000_000;
-
-const CLASSES_MAX: usize = 256;
 
 /// The classes of an accepted table, their segments, and the SHA-1 of the table's file.
 #[derive(Debug, Drop)]
@@ -60,7 +56,7 @@ impl Classes {
         ensures reads { Reads entries_in result (entries_of bytes.now) }
         ensures digest { IfOk result (λ c. c.digest ≡ sha1 bytes.now) }
     {
-        if bytes.len() > FILE_MAX {
+        if bytes.len() > TABLE_BYTES {
             return Err(top(TableWhy::TooLong));
         }
         let Some(json) = json_of(alloc, bytes)? else {
@@ -69,7 +65,7 @@ impl Classes {
         let Some(elements) = classes_of(&json) else {
             return Err(top(TableWhy::Shape));
         };
-        if elements.is_empty() || elements.len() > CLASSES_MAX {
+        if elements.is_empty() || elements.len() > CLASS_LIMIT {
             return Err(top(TableWhy::Range));
         }
         let (classes, segments) = read_classes(alloc, elements)?;
@@ -92,9 +88,10 @@ impl Classes {
         }
     }
 
-    /// Does nothing: its contract is the law that a class table keeps its rules. Names and paths are
-    /// unique, each class's parent stands before it, inherited properties and calls come first, all
-    /// sizes are within their limits, and each initial value has its kind's tag.
+    /// Does nothing, and is public for proofs alone: its contract is the law that a class table keeps
+    /// its rules, for a caller whose own proof needs one. Names and paths are unique, each class's
+    /// parent stands before it, inherited properties and calls come first, all sizes are within
+    /// their limits, and each initial value has its kind's tag.
     pub fn keeps_rules(&self)
         ensures rules { IsTable (entries_in self.now) }
         ensures layout { IsLayout self.now }
@@ -134,8 +131,10 @@ impl Classes {
 
     /// The segment of a guid; `None` exactly where no path of the table has one of that guid.
     pub fn segment(&self, g: Guid) -> Option<&Segment>
-        ensures found { IfSome result (λ s. guid_in (segments_of (entries_in self.now)) s.now.outer s.now.name ≡ Some g) }
-        ensures absent { IfNone result ((outer : ℕ) (name : List ℕ) → guid_in (segments_of (entries_in self.now)) outer name ≡ Some g → ⊥) }
+        ensures found { IfSome result (λ s.
+            guid_in (segments_of (entries_in self.now)) s.now.outer s.now.name ≡ Some g) }
+        ensures absent { IfNone result ((outer : ℕ) (name : List ℕ)
+            → guid_in (segments_of (entries_in self.now)) outer name ≡ Some g → ⊥) }
     {
         match segment_index(g) {
             Some(i) => item(self.segments.as_slice(), i),

@@ -2,6 +2,7 @@
 ghost use Rattle.std.specs.Prelude.{◌≡◌, ◌+◌, ◌*◌, ◌^◌, ◌<◌, ◌≤◌, ◌++◌, ◌∷◌, ◌&&◌, ◌==◌, [], List, map, length, IsTrue, IfOk, OnOk, IfSome};
 ghost use Rattle.std.specs.List.{position as list_position};
 ghost use Rattle.std.specs.Str.{bytes_eq};
+ghost use Rattle.protocol_model.specs.Limits.{depth_limit, segment_limit};
 ghost use Rattle.protocol_model.specs.Value as Model;
 ghost use Rattle.table_model.specs.Rules.{path_under, segment_under};
 ghost use Rattle.class_layout.specs.Tables.{AreOf, Extends, segment_at, stand_within};
@@ -17,10 +18,12 @@ pub(crate) fn add_path(
     segments: &mut SegmentList,
     names: &[Text],
 ) -> Result<GuidList, Memory>
-    requires few { length segments.old ≤ 1024 }
-    requires short { length names.now ≤ 8 }
-    ensures path { (known : List Model.Segment) → AreOf segments.old known → IfOk result (λ path. map (segment_at segments.new) path ≡ path_under known 0 names.now) }
-    ensures are { (known : List Model.Segment) → AreOf segments.old known → OnOk result (AreOf segments.new (known ++ path_under known 0 names.now)) }
+    requires few { length segments.old ≤ segment_limit }
+    requires short { length names.now ≤ depth_limit }
+    ensures path { (known : List Model.Segment) → AreOf segments.old known
+        → IfOk result (λ path. map (segment_at segments.new) path ≡ path_under known 0 names.now) }
+    ensures are { (known : List Model.Segment) → AreOf segments.old known
+        → OnOk result (AreOf segments.new (known ++ path_under known 0 names.now)) }
     ensures within { IfOk result (λ path. IsTrue (stand_within (length segments.new) path)) }
     ensures extends { OnOk result (Extends segments.old segments.new) }
 {
@@ -41,9 +44,12 @@ fn add_segment(
     name: &Text,
 ) -> Result<Guid, Memory>
     requires { length segments.old < 2 ^ 20 }
-    ensures guid { (known : List Model.Segment) → AreOf segments.old known → IfOk result (λ guid. guid ≡ (segment_under known outer name.now).guid) }
-    ensures are { (known : List Model.Segment) → AreOf segments.old known → OnOk result (AreOf segments.new (known ++ segment_under known outer name.now ∷ [])) }
-    ensures there { IfOk result (λ guid. segment_at segments.new guid ≡ record { guid = guid; outer = outer; name = name.now }) }
+    ensures guid { (known : List Model.Segment) → AreOf segments.old known
+        → IfOk result (λ guid. guid ≡ (segment_under known outer name.now).guid) }
+    ensures are { (known : List Model.Segment) → AreOf segments.old known
+        → OnOk result (AreOf segments.new (known ++ segment_under known outer name.now ∷ [])) }
+    ensures there { IfOk result (λ guid. segment_at segments.new guid
+        ≡ record { guid = guid; outer = outer; name = name.now }) }
     ensures within { IfOk result (λ guid. IsTrue (stand_within (length segments.new) (guid ∷ []))) }
     ensures extends { OnOk result (Extends segments.old segments.new) }
     ensures one { OnOk result (length segments.new ≤ length segments.old + 1) }
@@ -63,7 +69,8 @@ fn add_new(
 ) -> Result<Guid, Memory>
     requires { length segments.old < 2 ^ 20 }
     ensures guid { IfOk result (λ guid. guid ≡ 2 * length segments.old + 3) }
-    ensures added { OnOk result (segments.new ≡ segments.old ++ record { outer = outer; name = name.now } ∷ []) }
+    ensures added { OnOk result (segments.new
+        ≡ segments.old ++ record { outer = outer; name = name.now } ∷ []) }
 {
     let added = Guid(2 * segments.len() as u32 + 3);
     let name = name.copied(alloc)?;
@@ -73,7 +80,9 @@ fn add_new(
 
 /// The place of the segment of that name under an outer.
 fn find_segment(segments: &SegmentList, outer: Guid, name: &Text) -> Option<usize>
-    ensures { result ≡ list_position (λ (s : SegmentSpec). s.outer == outer && bytes_eq s.name name.now) segments.now }
+    ensures { result
+        ≡ list_position (λ (s : SegmentSpec). s.outer == outer && bytes_eq s.name name.now)
+        segments.now }
 {
     segments
         .as_slice()

@@ -2,8 +2,9 @@
 ghost use Rattle.std.specs.Prelude.{◌≡◌, ◌<◌, ◌≤◌, List, map, length, IfSome};
 ghost use Rattle.std.specs.List.{list_any, position as list_position};
 ghost use Rattle.std.specs.Str.{bytes_eq};
+ghost use Rattle.protocol_model.specs.Limits.{class_limit};
 ghost use Rattle.table_model.specs.Rules.{class_names, has_path, is_there, path_names, place_of, same_names};
-ghost use Rattle.class_layout.specs.Tables.{entry_of, place_of_path, segment_at};
+ghost use Rattle.class_layout.specs.Tables.{entry_of, has_names, place_of_path, segment_at};
 ghost use Rattle.class_layout.specs.declared.class.Class.{Class as ClassSpec};
 ghost use Rattle.class_layout.specs.declared.class.Segment.{Segment as SegmentSpec};
 
@@ -12,7 +13,8 @@ use net_core::{Guid, Text, TextList};
 
 /// A class has this name.
 pub(crate) fn has_name(classes: &ClassList, name: &str) -> bool
-    ensures { (segments : List SegmentSpec) → result ≡ is_there (class_names (map (entry_of segments) classes.now)) name.now }
+    ensures { (segments : List SegmentSpec) → result
+        ≡ is_there (class_names (map (entry_of segments) classes.now)) name.now }
 {
     any_name(classes, name)
 }
@@ -31,7 +33,7 @@ pub(crate) fn has_path(classes: &ClassList, segments: &SegmentList, names: &Text
 }
 
 fn any_path(classes: &ClassList, segments: &SegmentList, names: &TextList) -> bool
-    ensures { result ≡ list_any (λ (c : ClassSpec). same_names names.now (path_names (map (segment_at segments.now) c.path))) classes.now }
+    ensures { result ≡ list_any (has_names segments.now names.now) classes.now }
 {
     classes.as_slice().iter().any(|c| is_path(
         segments.as_slice(),
@@ -43,7 +45,7 @@ fn any_path(classes: &ClassList, segments: &SegmentList, names: &TextList) -> bo
 /// The place of the class of that name, counted from 0.
 #[tactic(auto, using(crate::proofs::Finding::class_place, crate::proofs::Finding::found_within))]
 pub(crate) fn find(classes: &[Class], name: &str) -> Option<u16>
-    requires { length classes.now ≤ 256 }
+    requires { length classes.now ≤ class_limit }
     ensures { (segments : List SegmentSpec) → result ≡ place_of (map (entry_of segments) classes.now) name.now }
 {
     narrow(position(classes, name))
@@ -52,7 +54,7 @@ pub(crate) fn find(classes: &[Class], name: &str) -> Option<u16>
 /// The place of the class that has this path, its names outermost first.
 #[tactic(auto, using(crate::proofs::Finding::found_within))]
 pub(crate) fn find_path(classes: &[Class], segments: &[Segment], names: &[Text]) -> Option<u16>
-    requires { length classes.now ≤ 256 }
+    requires { length classes.now ≤ class_limit }
     ensures { result ≡ place_of_path (map (entry_of segments.now) classes.now) names.now }
 {
     narrow(path_position(classes, segments, names))
@@ -65,7 +67,7 @@ fn position(classes: &[Class], name: &str) -> Option<usize>
 }
 
 fn path_position(classes: &[Class], segments: &[Segment], names: &[Text]) -> Option<usize>
-    ensures { result ≡ list_position (λ (c : ClassSpec). same_names names.now (path_names (map (segment_at segments.now) c.path))) classes.now }
+    ensures { result ≡ list_position (has_names segments.now names.now) classes.now }
 {
     classes
         .iter()
@@ -74,7 +76,7 @@ fn path_position(classes: &[Class], segments: &[Segment], names: &[Text]) -> Opt
 
 /// A place in a table.
 fn narrow(place: Option<usize>) -> Option<u16>
-    requires { IfSome place (λ i. i < 256) }
+    requires { IfSome place (λ i. i < class_limit) }
     ensures { result ≡ place }
 {
     match place {
@@ -90,12 +92,10 @@ fn is_path(segments: &[Segment], path: &[Guid], names: &[Text]) -> bool
     if names.len() != path.len() {
         return false;
     }
-    let mut i = 0;
-    while i < names.len() {
-        if names[i].as_str() != name_of(segments, path[i]) {
+    for (name, guid) in names.iter().zip(path) {
+        if name.as_str() != name_of(segments, *guid) {
             return false;
         }
-        i += 1;
     }
     true
 }

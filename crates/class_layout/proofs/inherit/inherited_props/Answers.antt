@@ -1,6 +1,6 @@
 use Rattle.std.proofs.Common.{◌∙◌, sym, ap, map}
 use Rattle.protocol_model.specs.Value.{Class}
-use Rattle.class_layout.specs.Tables.{prop_of}
+use Rattle.class_members.specs.Members.{prop_of}
 use Rattle.class_layout.proofs.Parents.{no_parent}
 use Rattle.class_layout.proofs.inherit.inherited_props.Goals as goal
 

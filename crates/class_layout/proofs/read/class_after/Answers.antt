@@ -2,7 +2,8 @@ use Rattle.std.proofs.Common.{◌+◌, ◌*◌, ◌++◌, ◌∙◌, sym, ap, ma
 use Rattle.std.proofs.lemmas.Result.{err_from_is_err_and}
 use Rattle.serde_json.specs.View.{view}
 use Rattle.table_model.specs.Rules.{segments_of, next_guid, path_under}
-use Rattle.class_layout.specs.Tables.{entry_of, prop_of, call_of}
+use Rattle.class_layout.specs.Tables.{entry_of}
+use Rattle.class_members.specs.Members.{prop_of, call_of}
 use Rattle.class_layout.specs.Headings.{heading_of}
 use Rattle.class_layout.proofs.ClassSteps.{props_refused, calls_refused, sizes_refused, class_taken, sizes_told, short_path}
 use Rattle.class_layout.proofs.read.class_after.Goals as goal

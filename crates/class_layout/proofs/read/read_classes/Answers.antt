@@ -4,7 +4,7 @@ use Rattle.std.proofs.lemmas.Result.{err_from_is_err_and}
 use Rattle.serde_json.specs.View.{view}
 use Rattle.class_layout.specs.Tables.{entry_of}
 use Rattle.class_layout.proofs.Answered.{same_refusal}
-use Rattle.class_layout.proofs.Each.{there_at}
+use Rattle.class_members.proofs.Each.{there_at}
 use Rattle.class_layout.proofs.SoFar.{class_turn, class_stop, so_far_more}
 use Rattle.class_layout.proofs.read.read_classes.Goals as goal
 

@@ -1,6 +1,0 @@
-use Rattle.std.proofs.Common.{sym}
-use Rattle.class_layout.proofs.Fitting.{other_count}
-use Rattle.class_layout.proofs.args.args_fit.Goals as goal
-
-pub returns-then-kinds-args : goal.returns-then-kinds-args
-returns-then-kinds-args c = sym (other_count c.args.kinds.now c.args.args.now c.if-kinds-args.true)

@@ -1,0 +1,3 @@
+mod ArgKinds
+pub mod Each
+mod Naming

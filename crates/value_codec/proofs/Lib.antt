@@ -1,0 +1,5 @@
+mod Signed
+pub mod Lengths
+mod Fitting
+mod Back
+mod Spelled
