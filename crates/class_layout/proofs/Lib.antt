@@ -3,6 +3,7 @@ mod ClassSteps
 mod Few
 pub mod Finding
 mod Growing
+pub mod InMemory
 pub mod InitialValues
 mod Naming
 mod Parents

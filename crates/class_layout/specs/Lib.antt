@@ -1,4 +1,3 @@
 pub mod Tables
-pub mod Agreement
 pub mod Headings
 pub mod Growing

@@ -20,7 +20,7 @@ use table_json::{class_object, is_name, path_of, reach_of};
 use table_model::TableWhy;
 
 /// A class without its properties and calls, which are still to be read.
-#[derive(Debug, Drop)]
+#[derive(Drop)]
 pub(crate) struct Heading<'a> {
     pub(crate) name: Text,
     pub(crate) path: TextList,

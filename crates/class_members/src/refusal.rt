@@ -4,20 +4,27 @@ ghost use Rattle.class_members.specs.Agreement.{refusal_at};
 
 use net_core::Memory as NoMemory;
 use table_model::{Place, TableWhy};
+use thiserror::Error;
 
 /// Why a class table isn't read.
-#[derive(Clone, Copy, Debug, PartialEq, Eq)]
+#[derive(Clone, Copy, Debug, PartialEq, Eq, Error)]
 pub enum TableRefusal {
     /// The first rule that the file breaks, and where. The file is looked at from left to right.
+    #[error("class table refused at {place}: {why:?}")]
     BadTable { place: Place, why: TableWhy },
     /// There was no memory for the table.
+    #[error("no memory for the class table")]
     Memory,
 }
 
 /// Why one object of a table isn't taken.
-#[derive(Clone, Copy, Debug, PartialEq, Eq)]
+#[derive(Clone, Copy, Debug, Error)]
 pub enum Fault {
+    /// The first rule that the object breaks.
+    #[error("{0:?}")]
     Broken(TableWhy),
+    /// There was no memory for what the object tells.
+    #[error("no memory for the class table")]
     Memory,
 }
 

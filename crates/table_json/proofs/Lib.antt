@@ -1,6 +1,5 @@
 pub mod Lent
 pub mod JsonText
 pub mod Pieces
-pub mod Digits
 pub mod Behind
 pub mod Paths

@@ -6,6 +6,7 @@ ghost use Rattle.table_model.specs.Words.{is_name_byte, is_name, path_of};
 ghost use Rattle.table_json.specs.Paths.{pieces_after, path_in};
 
 use net_core::{Memory, Text, TextList};
+use protocol_model::limits::{DEPTH_LIMIT, NAME_BYTES};
 use std::alloc::Global;
 
 fn is_name_byte(byte: u8) -> bool
@@ -27,7 +28,7 @@ pub fn is_name(text: &str) -> bool
     match text.as_bytes().split_first() {
         None => false,
         Some((first, rest)) => {
-            first.is_ascii_alphabetic() && are_name_bytes(rest) && rest.len() <= 30
+            first.is_ascii_alphabetic() && are_name_bytes(rest) && rest.len() < NAME_BYTES
         }
     }
 }
@@ -51,7 +52,7 @@ fn names_in(alloc: Global, text: Option<&str>) -> Result<Option<TextList>, Memor
     let mut rest = text;
     while let Some(pieces) = rest {
         let (name, later) = first_piece(pieces);
-        if names.len() == 8 || !is_name(name) {
+        if names.len() == DEPTH_LIMIT || !is_name(name) {
             return Ok(None);
         }
         names.push(Text::from_str(alloc, name)?)?;

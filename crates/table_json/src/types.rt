@@ -1,23 +1,24 @@
 // Types of properties and arguments.
-ghost use Rattle.std.specs.Prelude.{◌≡◌, ℕ, Some, Option, min, option_map};
+ghost use Rattle.std.specs.Prelude.{◌≡◌, ℕ, Some, Option, option_map};
 ghost use Rattle.std.specs.List.{list_all};
 ghost use Rattle.script_model.specs.Script.{is_digit, digits_value, natural_of};
 ghost use Rattle.table_model.specs.Words.{meaning_in, plain_types, behind, number_behind, counted, counted_type, type_of};
+ghost use Rattle.table_json.specs.Capped.{capped};
 ghost use Rattle.protocol_model.specs.declared.Kind.TheVariants.{Enum, Bytes};
 
 use protocol_model::Kind;
 use table_model::TableWhy;
 
 /// What a larger number counts as; every range of a type ends below it.
-const MOST: u32 = 65_536;
+const CAP: u32 = 65_536;
 
-// The number of the digits, and `MOST` for a larger one.
+// The number of the digits, capped.
 fn capped_value(text: &[u8]) -> u32
-    ensures { result ≡ min MOST (digits_value 0 text.now) }
+    ensures { result ≡ capped (digits_value 0 text.now) }
 {
     let mut value = 0u32;
     for digit in text {
-        value = MOST.min(10 * value + u32::from(digit.saturating_sub(48)));
+        value = CAP.min(10 * value + u32::from(digit.saturating_sub(b'0')));
     }
     value
 }
@@ -25,14 +26,14 @@ fn capped_value(text: &[u8]) -> u32
 fn are_digits(text: &[u8]) -> bool
     ensures { result ≡ list_all is_digit text.now }
 {
-    text.iter().all(|&byte| 48 <= byte && byte <= 57)
+    text.iter().all(|&byte| b'0' <= byte && byte <= b'9')
 }
 
-// The number where it is spelled in the one way, and `MOST` for a larger one.
+// The number where it is spelled in the one way, capped.
 fn natural(text: &[u8]) -> Option<u32>
-    ensures { result ≡ option_map (min MOST) (natural_of text.now) }
+    ensures { result ≡ option_map capped (natural_of text.now) }
 {
-    if text.is_empty() || (text.len() > 1 && text[0] == 48) || !are_digits(text) {
+    if text.is_empty() || (text.len() > 1 && text[0] == b'0') || !are_digits(text) {
         return None;
     }
     Some(capped_value(text))
@@ -45,9 +46,9 @@ fn behind<'a>(word: &str, text: &'a str) -> Option<&'a str>
     text.strip_prefix(word)
 }
 
-// The number behind the word, and `MOST` for a larger one.
+// The number behind the word, capped.
 fn number_behind(word: &str, text: &str) -> Option<u32>
-    ensures { result ≡ option_map (min MOST) (number_behind word.now text.now) }
+    ensures { result ≡ option_map capped (number_behind word.now text.now) }
 {
     natural(behind(word, text)?.as_bytes())
 }

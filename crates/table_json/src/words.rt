@@ -1,9 +1,11 @@
 // Words for conditions, ways of calls and relevancies.
 ghost use Rattle.std.specs.Prelude.{◌≡◌, if◌then◌else◌, unsigned_abs, Ok, Err};
 ghost use Rattle.protocol_model.specs.declared.Reach.TheVariants.{Near};
+ghost use Rattle.protocol_model.specs.Limits.{cull_limit};
 ghost use Rattle.table_model.specs.Rules.{is_from_to, reach_of};
 ghost use Rattle.table_model.specs.Words.{meaning_in, conditions, ways};
 
+use protocol_model::limits::CULL_LIMIT;
 use protocol_model::{Cond, Reach, Way};
 use table_model::TableWhy;
 
@@ -46,10 +48,10 @@ fn without_distance(reach: Reach, cull: i128) -> Result<Reach, TableWhy>
 }
 
 fn near(cull: i128) -> Result<Reach, TableWhy>
-    ensures { result ≡ (if is_from_to 1 50000 cull then Ok (Near (unsigned_abs cull))
+    ensures { result ≡ (if is_from_to 1 cull_limit cull then Ok (Near (unsigned_abs cull))
         else Err TableWhy.Range) }
 {
-    if 1 <= cull && cull <= 50_000 {
+    if 1 <= cull && cull <= i128::from(CULL_LIMIT) {
         Ok(Reach::Near(cull as u32))
     } else {
         Err(TableWhy::Range)

@@ -1,12 +1,16 @@
 // The definitions of a class table's file: which JSON values are class tables, which classes each
 // one has, and why any other is refused.
 //
-// It has definitions and laws above them, and no code. It stands on `protocol_model` for what a
-// class is, on `script_model` for how numbers are spelled in decimal, and on `serde_json`'s own
-// meaning of the bytes for what is JSON.
+// It has definitions and laws above them, and no code but how a place is shown. It stands on
+// `protocol_model` for what a class is, on `script_model` for how numbers are spelled in decimal, and
+// on `serde_json`'s own meaning of the bytes for what is JSON.
+//
+//     {"classes":[{"name":"Pawn", .., "properties":[{..}], "calls":[{..}]}]}
+//      table       class 1            class 1 property 1   class 1 call 1
 #![tactic(auto)]
 
 pub mod laws;
+mod shown;
 
 /// Where in a class table a rule is broken. Classes, and each class's own properties and calls,
 /// are counted from 1.

@@ -1,5 +1,5 @@
 // Class tables: the built-in one, good ones at their limits, and which rule a bad one breaks first.
-use super::*;
+use class_layout::{Class, Classes, Guid, TableRefusal, Text, TextList};
 use std::alloc::{AllocError, Global};
 use std::test::Fail;
 
@@ -44,20 +44,16 @@ fn file_of(alloc: Global, pieces: [&str; 3], times: usize) -> Result<String, All
 
 /// How many classes the file has, or the first rule that it breaks, and where.
 fn outcome(alloc: Global, file: &[u8]) -> Result<String, AllocError> {
-    let refusal = match Classes::read(alloc, file) {
-        Ok(table) => return format!(in alloc; "classes {}", table.count()),
-        Err(refusal) => refusal,
-    };
-    match refusal {
-        TableRefusal::Memory => Err(AllocError),
-        TableRefusal::BadTable { place, why } => match place {
-            Place::Table => format!(in alloc; "table: {why:?}"),
-            Place::Class { class } => format!(in alloc; "class {class}: {why:?}"),
-            Place::Property { class, property } => {
-                format!(in alloc; "class {class} property {property}: {why:?}")
+    match Classes::read(alloc, file) {
+        Ok(table) => format!(in alloc; "classes {}", table.count()),
+        Err(TableRefusal::Memory) => Err(AllocError),
+        Err(refusal) => {
+            let message = format!(in alloc; "{refusal}")?;
+            match message.as_str().strip_prefix("class table refused at ") {
+                Some(rule) => String::from_str(alloc, rule),
+                None => Ok(message),
             }
-            Place::Call { class, call } => format!(in alloc; "class {class} call {call}: {why:?}"),
-        },
+        }
     }
 }
 

@@ -3,10 +3,11 @@ ghost use Rattle.std.specs.Prelude.{◌≡◌, ◌+◌, ◌^◌, ◌<◌, length
 ghost use Rattle.protocol_model.specs.World.{Edits};
 ghost use Rattle.world_table.specs.Stands.{Stands};
 
-use super::*;
+use class_layout::{Classes, Value};
 use std::marker::Brand;
 use std::sync::ledger::{Blank, Ledger};
 use std::test::Fail;
+use world_table::{Edit, EditRefusal, Guid, Handle, Look, Player, Steps, World};
 
 /// A class with a custom property, a truth value, and another one.
 const DOOR: &str =

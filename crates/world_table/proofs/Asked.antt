@@ -4,7 +4,7 @@ use Rattle.std.specs.Prelude.{slice_get}
 use Rattle.std.specs.Bool.{then_some}
 use Rattle.protocol_model.specs.Value.{Prop}
 use Rattle.protocol_model.specs.World.{Edits, class_at, class_in, no_class, is_custom, has_switch, Spawned}
-use Rattle.class_layout.specs.Values.{whole_of}
+use Rattle.value_codec.specs.Values.{whole_of}
 use Rattle.class_layout.specs.Tables.{Layout, table_in}
 use Rattle.world_table.specs.declared.actor.Actor.{Actor}
 use Rattle.world_table.specs.declared.actor.Cell.{Cell}

@@ -6,8 +6,8 @@ use Rattle.protocol_model.specs.declared.Kind.{Kind}
 use Rattle.protocol_model.specs.Value.{Prop, prop_at}
 use Rattle.protocol_model.specs.World.{Edits, Spawned, class_of, class_in, class_at}
 use Rattle.class_layout.specs.Tables.{Layout, IsLayout, table_in}
-use Rattle.class_layout.specs.Values.{value_fits}
-use Rattle.class_layout.specs.declared.value.Value.{Value}
+use Rattle.value_codec.specs.Values.{value_fits}
+use Rattle.value_codec.specs.declared.value.Value.{Value}
 use Rattle.world_table.specs.declared.actor.Actor.{Actor}
 use Rattle.world_table.specs.declared.actor.Cell.{Cell}
 use Rattle.world_table.specs.Kept.{Kept, actor_at, record_value}

@@ -1,15 +1,16 @@
 pub mod Numbers
-pub mod Lists
-pub mod Records
-pub mod Props
-pub mod Cells
-pub mod Asked
+mod Lists
+mod Records
+mod Props
+mod Cells
+mod Asked
 pub mod Telling
-pub mod Changing
-pub mod Edits
-pub mod Seats
-pub mod Refusing
-pub mod Setting
-pub mod Spawning
-pub mod Answering
-pub mod Fitting
+mod Changing
+mod Edits
+mod Seats
+mod Refusing
+mod RecordChanging
+mod Setting
+mod Spawning
+mod Answering
+mod Fitting

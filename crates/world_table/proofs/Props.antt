@@ -6,21 +6,13 @@ use Rattle.std.proofs.lemmas.Option.{slice_get-map}
 use Rattle.protocol_model.specs.declared.Kind.{Kind}
 use Rattle.protocol_model.specs.Value as Model
 use Rattle.protocol_model.specs.World.{class_at, no_class, has_switch, is_custom}
-use Rattle.table_model.specs.Rules.{Entry}
-use Rattle.class_layout.specs.Tables.{Layout, prop_of, entry_of, table_in}
+use Rattle.class_layout.specs.Tables.{Layout, entry_of, table_in}
+use Rattle.class_members.specs.Members.{prop_of}
 use Rattle.class_layout.specs.declared.class.Class.{Class}
-use Rattle.class_layout.specs.declared.class.Prop.{Prop}
-use Rattle.class_layout.specs.declared.class.Segment.{Segment}
+use Rattle.class_members.specs.declared.members.Prop.{Prop}
+use Rattle.class_layout.proofs.InMemory.{props_in}
 use Rattle.world_table.specs.Answers.{settable_at}
 use Rattle.world_table.specs.Kept.{own_at}
-
--- the properties of a class in memory
-props_in : (segments : List Segment) (classes : List Class) (n k : ℕ)
-    → slice_get (slice_index_or (map (λ (e : Entry). e.class) (map (entry_of segments) classes)) n no_class).props k
-    ≡ option_map prop_of (option_and_then (λ (c : Class). slice_get c.props k) (slice_get classes n))
-props_in segments [] n k = refl
-props_in segments (c ∷ classes) zero k = slice_get-map prop_of c.props k
-props_in segments (c ∷ classes) (suc n) k = props_in segments classes n k
 
 -- a handle from 4 on is none of those below
 pub apart : (k h : ℕ) → h < 4 → (suc (suc (suc (suc k))) == h) ≡ false

@@ -8,8 +8,8 @@ use Rattle.protocol_model.specs.Search.{or_else}
 use Rattle.protocol_model.specs.Value.{Table, Class, Prop, fits, prop_at}
 use Rattle.protocol_model.specs.World as model
 use Rattle.protocol_model.specs.World.{Edits, lives, class_of, takes, names_living, named_actor, is_in_range, is_past_last, is_player}
-use Rattle.class_layout.specs.Values.{whole_of, is_of, value_fits}
-use Rattle.class_layout.specs.declared.value.Value.{Value}
+use Rattle.value_codec.specs.Values.{whole_of, is_of, value_fits}
+use Rattle.value_codec.specs.declared.value.Value.{Value}
 use Rattle.world_table.specs.declared.edit.Edit.{Edit}
 use Rattle.world_table.specs.Answers.{edit_of, refusal_in, is_told_right, has_tag, may_own, player_of, settable_at}
 

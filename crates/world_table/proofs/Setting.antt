@@ -8,8 +8,8 @@ use Rattle.protocol_model.specs.declared.Kind.{Kind}
 use Rattle.protocol_model.specs.Value.{Class, Prop}
 use Rattle.protocol_model.specs.World.{Edits, Set, Switch, class_at, has_switch, is_custom}
 use Rattle.class_layout.specs.Tables.{Layout, table_in}
-use Rattle.class_layout.specs.Values.{whole_of, value_fits}
-use Rattle.class_layout.specs.declared.value.Value.{Value}
+use Rattle.value_codec.specs.Values.{whole_of, value_fits}
+use Rattle.value_codec.specs.declared.value.Value.{Value}
 use Rattle.world_table.specs.declared.actor.Actor.{Actor}
 use Rattle.world_table.specs.declared.actor.Cell.{Cell}
 use Rattle.world_table.specs.declared.edit.Look.{Look}

@@ -7,14 +7,13 @@ use Rattle.std.proofs.lemmas.Bool.Decides.{nat_tests}
 use Rattle.std.proofs.lemmas.Option.{slice_get-map, slice_get_within, same_Some}
 use Rattle.protocol_model.specs.Value as Model
 use Rattle.protocol_model.specs.World.{Edits, Spawn, Spawned, class_at, no_class, spawn_count, spawn_of, is_custom}
-use Rattle.table_model.specs.Rules.{Entry}
-use Rattle.table_model.specs.Words.{is_name}
-use Rattle.table_model.specs.Facts.{is_prop, is_type}
-use Rattle.class_layout.specs.Tables.{Layout, IsLayout, prop_of, class_of, entry_of, entries_in, table_in}
-use Rattle.class_layout.specs.Values.{whole_of, value_fits, is_of}
+use Rattle.class_layout.specs.Tables.{Layout, IsLayout, class_of, entry_of, entries_in, table_in}
+use Rattle.class_members.specs.Members.{prop_of}
+use Rattle.value_codec.specs.Values.{whole_of, value_fits, is_of}
 use Rattle.class_layout.specs.declared.class.Class.{Class}
-use Rattle.class_layout.specs.declared.class.Prop.{Prop}
-use Rattle.class_layout.specs.declared.class.Segment.{Segment}
+use Rattle.class_members.specs.declared.members.Prop.{Prop}
+use Rattle.class_layout.proofs.InMemory.{class_in_memory}
+use Rattle.class_layout.proofs.InitialValues.{init_fits}
 use Rattle.world_table.specs.declared.actor.Actor.{Actor}
 use Rattle.world_table.specs.declared.actor.Cell.{Cell}
 use Rattle.world_table.specs.Kept.{Kept, actor_at, first_cell}
@@ -26,12 +25,6 @@ use Rattle.world_table.proofs.Telling.{spawn_counts}
 use Rattle.world_table.proofs.Changing.{actor_of, other_cells}
 
 -- ---- the record and the cells of a new actor
-
-class_in_memory : (segments : List Segment) (classes : List Class) (n : ℕ) (c : Class) → slice_get classes n ≡ Some c
-    → slice_index_or (map (λ (e : Entry). e.class) (map (entry_of segments) classes)) n no_class ≡ class_of segments c
-class_in_memory segments [] n c h = absurd (cc)
-class_in_memory segments (d ∷ classes) zero c h = ap (class_of segments) (same_Some d c h)
-class_in_memory segments (d ∷ classes) (suc n) c h = class_in_memory segments classes n c h
 
 and_on : (b : Bool) → b ≡ (b && true)
 and_on true = refl
@@ -180,12 +173,3 @@ spawn_gives w edits n x y c cells actors first past stands at_n cells_is first_i
     (subst (λ (rs : List Actor). Stands (record w { actors = rs; cells = w.cells ++ map first_cell c.props })
     (Spawn n x y ∷ edits)) (sym same)
     (spawn_stands w edits n x y c stands at_n))
-
--- a class of the table in memory is one of the table
-pub class_in_range : (layout : Layout) (n : ℕ) (c : Class) → slice_get layout.classes n ≡ Some c
-    → nat_lt n (length (table_in layout)) ≡ true
-class_in_range layout n c h =
-    let under = slice_get_within layout.classes n c h in
-    let len = length-map (entries_in layout) (λ (e : Entry). e.class) in
-    let len_2 = length-map layout.classes (entry_of layout.segments) in
-    grind (arith, nat_tests)

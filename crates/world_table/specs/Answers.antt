@@ -5,8 +5,8 @@ use Rattle.protocol_model.specs.Search.{or_else}
 use Rattle.protocol_model.specs.Value.{Table, Class, Prop, prop_at}
 use Rattle.protocol_model.specs.World as model
 use Rattle.protocol_model.specs.World.{Edits, Spawned, spawn_count, spawn_of, class_of, lives, value_of, owner_of, is_dormant, flush_of, is_on, has_switch, viewer_of, team_of, is_player, refusal_of}
-use Rattle.class_layout.specs.Values.{whole_of, is_of}
-use Rattle.class_layout.specs.declared.value.Value.{Value}
+use Rattle.value_codec.specs.Values.{whole_of, is_of}
+use Rattle.value_codec.specs.declared.value.Value.{Value}
 use Rattle.world_table.specs.declared.edit.Edit.{Edit}
 use Rattle.world_table.specs.declared.edit.EditRefusal.{EditRefusal}
 use Rattle.world_table.specs.declared.edit.Look.{Look}

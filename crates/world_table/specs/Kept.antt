@@ -5,8 +5,8 @@ use Rattle.std.specs.List.{list_any}
 use Rattle.protocol_model.specs.World.{is_custom}
 use Rattle.class_layout.specs.Tables.{Layout}
 use Rattle.class_layout.specs.declared.class.Class.{Class}
-use Rattle.class_layout.specs.declared.class.Prop.{Prop}
-use Rattle.class_layout.specs.declared.value.Value.{Value}
+use Rattle.class_members.specs.declared.members.Prop.{Prop}
+use Rattle.value_codec.specs.declared.value.Value.{Value}
 use Rattle.world_table.specs.declared.edit.Look.{Look}
 use Rattle.world_table.specs.declared.actor.Actor.{Actor}
 use Rattle.world_table.specs.declared.actor.Cell.{Cell}

@@ -4,7 +4,7 @@ use Rattle.std.specs.List.{list_any}
 use Rattle.protocol_model.specs.Search.{newest_of}
 use Rattle.protocol_model.specs.Value.{Table, Prop}
 use Rattle.protocol_model.specs.World.{Edits, Spawned, spawn_count, spawn_of, spawned_value, class_at, destroys, value_in, owner_of, is_dormant, flush_of, is_on, given_of, is_added, viewer_of, team_of, is_custom}
-use Rattle.class_layout.specs.Values.{whole_of, value_fits}
+use Rattle.value_codec.specs.Values.{whole_of, value_fits}
 use Rattle.class_layout.specs.Tables.{Layout, IsLayout, table_in}
 use Rattle.world_table.specs.declared.edit.Look.{Look}
 use Rattle.world_table.specs.declared.actor.Actor.{Actor}

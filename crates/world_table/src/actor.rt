@@ -1,8 +1,10 @@
 // The records of actors, and the flat cells of their properties.
 ghost use Rattle.std.specs.Prelude.{◌≡◌, ◌<◌, ◌==◌, ℕ, ◌++◌, map, length, slice_get, slice_set, IsSome, IfSome, IsTrue, Some, OnOk, OnErr, if◌then◌else◌};
+ghost use Rattle.std.specs.Option.{option_copied};
 ghost use Rattle.protocol_model.specs.declared.Kind.{Kind as KindSpec};
-ghost use Rattle.class_layout.specs.Values.{value_fits};
+ghost use Rattle.value_codec.specs.Values.{value_fits};
 ghost use Rattle.world_table.specs.Kept.{place_of, actor_at, living_at, place_in, cell_at, record_value, switch_at, first_cell, moved_look};
+ghost use Rattle.world_table.specs.declared.actor.Actor.{Actor as ActorSpec};
 ghost use Rattle.world_table.specs.declared.actor.Cell.{Cell as CellSpec};
 
 use crate::edit::Look;
@@ -12,7 +14,7 @@ use protocol_model::Cond;
 
 /// What is kept of an actor: its cells are those from `first` on and below `past`, one a property of
 /// its class, for the handles from 4 on.
-#[derive(Clone, Copy, Debug, PartialEq, Eq)]
+#[derive(Clone, Copy)]
 pub(crate) struct Actor {
     pub look: Look,
     /// The team that it is given to, 0 for none.
@@ -22,7 +24,7 @@ pub(crate) struct Actor {
 }
 
 /// What is kept of a property of an actor.
-#[derive(Clone, Copy, Debug, PartialEq, Eq)]
+#[derive(Clone, Copy)]
 pub(crate) struct Cell {
     pub value: Value,
     /// The property is a custom one, and its switch is on.
@@ -40,18 +42,18 @@ fn place(actor: Guid) -> Option<usize>
 }
 
 /// The record of an actor, `None` exactly where it was never spawned.
-pub(crate) fn record_at(actors: &[Actor], actor: Guid) -> Option<Actor>
-    ensures { result ≡ actor_at actors.now actor }
+pub(crate) fn record_at(actors: &[Actor], actor: Guid) -> Option<&Actor>
+    ensures { option_copied result ≡ actor_at actors.now actor }
 {
-    actors.get(place(actor)?).copied()
+    actors.get(place(actor)?)
 }
 
 /// The record of an actor that lives.
-pub(crate) fn living(actors: &[Actor], actor: Guid) -> Option<Actor>
-    ensures { result ≡ living_at actors.now actor }
+pub(crate) fn living(actors: &[Actor], actor: Guid) -> Option<&Actor>
+    ensures { option_copied result ≡ living_at actors.now actor }
 {
     match record_at(actors, actor) {
-        Some(record) if record.look.alive => Some(record),
+        Some(kept) if kept.look.alive => Some(kept),
         _ => None,
     }
 }
@@ -110,14 +112,28 @@ pub(crate) fn switch_for(actors: &[Actor], cells: &[Cell], actor: Guid, prop: Ha
     let Some(kept) = record_at(actors, actor) else {
         return false;
     };
-    match cell_for(cells, &kept, prop) {
+    match cell_for(cells, kept, prop) {
         Some(cell) => cell.on,
         None => false,
     }
 }
 
+/// Puts a value of x or y into the record of an actor.
+pub(crate) fn put_moved(actors: &mut Vec<Actor>, actor: Guid, prop: Handle, value: Value)
+    requires { IsSome (actor_at actors.old.items actor) }
+    ensures len { length actors.new.items ≡ length actors.old.items }
+    ensures each { (kept : ActorSpec) → actor_at actors.old.items actor ≡ Some kept
+        → (a : ℕ) → actor_at actors.new.items a ≡ (if a == actor
+        then Some (record kept { look = moved_look kept.look prop value })
+        else actor_at actors.old.items a) }
+{
+    if let Some(place) = place(actor) {
+        actors[place].look = moved(actors[place].look, prop, value);
+    }
+}
+
 /// How an actor stands once a value of x or y is set.
-pub(crate) fn moved(look: Look, prop: Handle, value: Value) -> Look
+fn moved(look: Look, prop: Handle, value: Value) -> Look
     ensures { result ≡ moved_look look prop value }
 {
     match value {

@@ -1,6 +1,7 @@
 // Edits, how they are refused, and how an actor looks.
 use class_layout::Value;
 use net_core::{Guid, Handle, Memory, Player};
+use thiserror::Error;
 
 /// A change to the world.
 #[derive(Clone, Copy, Debug, PartialEq, Eq)]
@@ -84,15 +85,19 @@ pub struct Look {
 }
 
 /// Why an edit isn't taken, in the order in which the reasons are looked for.
-#[derive(Clone, Copy, Debug, PartialEq, Eq)]
+#[derive(Clone, Copy, Debug, PartialEq, Eq, Error)]
 pub enum EditRefusal {
     /// The actor was never spawned, or is destroyed.
+    #[error("no living actor of that guid")]
     NoActor,
     /// There is no such class, player, team or property, or the value isn't one of its kind.
+    #[error("no such class, player, team or property, or a value of another kind")]
     OutOfRange,
     /// It is the 8,193rd spawn.
+    #[error("no room for another actor")]
     ActorsFull,
     /// There is no memory for an edit that would be taken.
+    #[error("no memory for the edit")]
     Memory,
 }
 

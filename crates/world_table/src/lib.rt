@@ -9,11 +9,10 @@
 
 mod actor;
 mod added;
+mod change;
 mod edit;
 mod handles;
 mod seat;
-#[cfg(test)]
-mod tests;
 mod world;
 
 pub use class_layout::{Classes, Value};
@@ -21,11 +20,3 @@ pub use edit::{Edit, EditRefusal, Look};
 pub use net_core::{Guid, Handle, Memory, Player, Steps};
 pub use world::World;
 
-/// How many actors a world has at most, those that were destroyed counted too.
-pub const ACTORS_MAX: usize = 8192;
-
-/// The greatest number of a player.
-pub const PLAYER_MAX: u16 = 1000;
-
-/// The greatest number of a team.
-pub const TEAM_MAX: u8 = 64;

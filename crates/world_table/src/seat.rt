@@ -5,7 +5,7 @@ ghost use Rattle.world_table.specs.Kept.{seat_at};
 use net_core::{Memory, Player};
 
 /// Where a player looks from, and its team, 0 for none.
-#[derive(Clone, Copy, Debug, PartialEq, Eq)]
+#[derive(Clone, Copy)]
 pub(crate) struct Seat {
     pub x: i32,
     pub y: i32,

@@ -1,10 +1,11 @@
 // The world: what it keeps, and what it answers.
 ghost use Rattle.std.specs.Prelude.{◌≡◌, ◌+◌, ◌^◌, ◌<◌, ◌↔◌, ◌∷◌, [], length, Some, None, IfOk, OnOk, OnErr, IsErrOf, IfSome, IsTrue, option_map};
+ghost use Rattle.std.specs.Option.{option_copied};
 ghost use Rattle.protocol_model.specs.Value.{prop_at, Prop as PropSpec};
 ghost use Rattle.protocol_model.specs.World as refusal;
 ghost use Rattle.protocol_model.specs.World.{Edits, class_of, viewer_of, is_added, team_of, given_of};
 ghost use Rattle.class_layout.specs.Tables.{table_in};
-ghost use Rattle.class_layout.specs.Values.{whole_of, value_fits};
+ghost use Rattle.value_codec.specs.Values.{whole_of, value_fits};
 ghost use Rattle.world_table.specs.Answers.{edit_of, look_of, named_value, is_switched, refusal_in, spawned_guid};
 ghost use Rattle.world_table.specs.Kept.{actor_at};
 ghost use Rattle.world_table.specs.Stands.{Stands};
@@ -119,9 +120,11 @@ impl<'a> World<'a> {
             → IfSome result (λ v. IsTrue (value_fits p.kind v)) }
         ensures step { steps.new ≡ steps.old + 1 }
     {
+        // Called for its fact alone: the classes keep their rules, so each cell holds a value of its
+        // property's kind.
         self.classes.keeps_rules();
         let kept = self.find(actor, steps)?;
-        value_for(&self.cells, &kept, prop)
+        value_for(&self.cells, kept, prop)
     }
 
     /// Where a player looks from, (0, 0) at first.
@@ -166,8 +169,8 @@ impl<'a> World<'a> {
     }
 
     /// The record of an actor, found in one step.
-    fn find<L: Ledger>(&self, actor: Guid, steps: &mut Steps<L>) -> Option<Actor>
-        ensures found { result ≡ actor_at self.now.actors actor }
+    fn find<L: Ledger>(&self, actor: Guid, steps: &mut Steps<L>) -> Option<&Actor>
+        ensures found { option_copied result ≡ actor_at self.now.actors actor }
         ensures step { steps.new ≡ steps.old + 1 }
     {
         steps.tick();

@@ -1,6 +1,6 @@
 use Rattle.std.proofs.Common.{◌≡◌, ◌+◌, ◌-◌, ◌*◌, min, get_or, drop, arith, ◌∙◌, ap}
 use Rattle.script_model.specs.Script.{digits_value}
-use Rattle.script_text.proofs.Digits.{capped_step}
+use Rattle.script_model.proofs.Numbers.{capped_step}
 use Rattle.script_text.proofs.number.capped_value.Goals as goal
 
 pub loop-digit-preserved : goal.loop-digit-preserved

@@ -1,4 +1,4 @@
-use Rattle.world_table.proofs.tests.seen.Given as goal
+use Rattle.table_tests.proofs.worlds.seen.Given as goal
 
 -- the ledger is the one that the blank names
 abbrev pub ghosts-seen_by : goal.ghosts-seen_by

@@ -14,7 +14,7 @@ use Rattle.world_table.proofs.world.World.set.Goals as goal
 pub returns-in_default-settable_kind-clause-answer : goal.returns-in_default-settable_kind-clause-answer
 returns-in_default-settable_kind-clause-answer c = λ edits h.
     let inside = subst (λ (w : Kept). Stands w edits) (sym c.self.view_is) h in
-    let living = lives_of _ edits _ c.args.actor c.in-Some.kept inside c.deref.ensures.value c.in-Some.ensures in
+    let living = lives_of _ edits _ c.args.actor c.in-Some.kept.now inside c.deref.ensures.value c.in-Some.ensures in
     let kind = ap (λ (class : Class). option_map (λ (p : Prop). p.kind) (settable_at class c.args.prop)) living.class
     ∙ sym c.settable_kind.ensures in
     rw (← c.self.view_is)
@@ -23,7 +23,7 @@ returns-in_default-settable_kind-clause-answer c = λ edits h.
 pub returns-then-not-fits-clause-answer : goal.returns-then-not-fits-clause-answer
 returns-then-not-fits-clause-answer c = λ edits h.
     let inside = subst (λ (w : Kept). Stands w edits) (sym c.self.view_is) h in
-    let living = lives_of _ edits _ c.args.actor c.in-Some.kept inside c.deref.ensures.value c.in-Some.ensures in
+    let living = lives_of _ edits _ c.args.actor c.in-Some.kept.now inside c.deref.ensures.value c.in-Some.ensures in
     let kind = ap (λ (class : Class). option_map (λ (p : Prop). p.kind) (settable_at class c.args.prop)) living.class
     ∙ sym c.settable_kind.ensures in
     rw (← c.self.view_is)
@@ -34,7 +34,7 @@ returns-then-not-fits-clause-answer c = λ edits h.
 pub returns-in-Some-cell_place-clause-answer : goal.returns-in-Some-cell_place-clause-answer
 returns-in-Some-cell_place-clause-answer c = λ edits h.
     let inside = subst (λ (w : Kept). Stands w edits) (sym c.self.view_is) h in
-    let living = lives_of _ edits _ c.args.actor c.in-Some.kept inside c.deref.ensures.value c.in-Some.ensures in
+    let living = lives_of _ edits _ c.args.actor c.in-Some.kept.now inside c.deref.ensures.value c.in-Some.ensures in
     let kind = ap (λ (class : Class). option_map (λ (p : Prop). p.kind) (settable_at class c.args.prop)) living.class
     ∙ sym c.settable_kind.ensures in
     rw (← c.self.view_is) (
@@ -47,8 +47,8 @@ returns-in-Some-cell_place-clause-answer c = λ edits h.
 pub returns-in-Some-cell_place-clause-stands : goal.returns-in-Some-cell_place-clause-stands
 returns-in-Some-cell_place-clause-stands c = λ edits h.
     let inside = subst (λ (w : Kept). Stands w edits) (sym c.self.view_is) h in
-    let living = lives_of _ edits _ c.args.actor c.in-Some.kept inside c.deref.ensures.value c.in-Some.ensures in
-    own_set _ edits c.args.actor c.args.prop c.in-Some-cell_place.place c.args.value c.in-Some.kept
+    let living = lives_of _ edits _ c.args.actor c.in-Some.kept.now inside c.deref.ensures.value c.in-Some.ensures in
+    own_set _ edits c.args.actor c.args.prop c.in-Some-cell_place.place c.args.value c.in-Some.kept.now
     c.in-Some-settable_kind.kind c.put_value.new.cells.items inside
     living.is (sym c.cell_place.ensures ∙ c.in-Some-cell_place.is)
     (sym c.settable_kind.ensures ∙ c.in-Some-settable_kind.is)
@@ -57,7 +57,7 @@ returns-in-Some-cell_place-clause-stands c = λ edits h.
 pub returns-clause-answer : goal.returns-clause-answer
 returns-clause-answer c = λ edits h.
     let inside = subst (λ (w : Kept). Stands w edits) (sym c.self.view_is) h in
-    let living = lives_of _ edits _ c.args.actor c.in-Some.kept inside c.deref.ensures.value c.in-Some.ensures in
+    let living = lives_of _ edits _ c.args.actor c.in-Some.kept.now inside c.deref.ensures.value c.in-Some.ensures in
     let kind = ap (λ (class : Class). option_map (λ (p : Prop). p.kind) (settable_at class c.args.prop)) living.class
     ∙ sym c.settable_kind.ensures in
     rw (← c.self.view_is) (
@@ -70,17 +70,10 @@ returns-clause-answer c = λ edits h.
 pub returns-clause-stands : goal.returns-clause-stands
 returns-clause-stands c = λ edits h.
     let inside = subst (λ (w : Kept). Stands w edits) (sym c.self.view_is) h in
-    let living = lives_of _ edits _ c.args.actor c.in-Some.kept inside c.deref.ensures.value c.in-Some.ensures in
-    let kept : Actor = c.in-Some.kept in
-    place_set _ edits c.args.actor c.args.prop c.args.value kept c.in-Some-settable_kind.kind
-    c.put_record.new.actors.items inside
+    let living = lives_of _ edits _ c.args.actor c.in-Some.kept.now inside c.deref.ensures.value c.in-Some.ensures in
+    place_set _ edits c.args.actor c.args.prop c.args.value c.in-Some.kept.now c.in-Some-settable_kind.kind
+    c.put_moved.new.actors.items inside
     living.is (sym c.cell_place.ensures ∙ c.in_default-cell_place.is)
     (sym c.settable_kind.ensures ∙ c.in-Some-settable_kind.is)
     (sym c.fits.ensures ∙ c.if-not-fits.false)
-    (record {
-      len = c.put_record.ensures.len;
-      each = λ b.
-          c.put_record.ensures.each b
-          ∙ ap (λ (look : Look). if b == c.args.actor then Some
-          (record kept { look = look }) else actor_at c.self.inside.actors.items b) c.moved-kept.ensures;
-    })
+    (record { len = c.put_moved.ensures.len; each = c.put_moved.ensures.each c.in-Some.kept.now living.is })

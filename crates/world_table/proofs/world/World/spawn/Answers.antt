@@ -3,12 +3,13 @@ use Rattle.std.proofs.lemmas.Bool.Decides.{nat_tests}
 use Rattle.std.proofs.lemmas.Int.{to_z-of_z}
 use mir.Val.{SFits}
 use Rattle.protocol_model.specs.World.{spawn_count}
-use Rattle.class_layout.specs.declared.class.Prop.{Prop}
+use Rattle.class_members.specs.declared.members.Prop.{Prop}
 use Rattle.world_table.specs.declared.edit.Edit.{Edit}
 use Rattle.world_table.specs.Kept.{Kept, first_cell}
 use Rattle.world_table.specs.Stands.{Stands}
 use Rattle.world_table.proofs.Refusing.{decided}
-use Rattle.world_table.proofs.Spawning.{spawn_gives, class_in_range}
+use Rattle.class_layout.proofs.InMemory.{class_in_range}
+use Rattle.world_table.proofs.Spawning.{spawn_gives}
 use Rattle.world_table.proofs.world.World.spawn.Goals as goal
 
 pub returns-in-Ok-clause-answer : goal.returns-in-Ok-clause-answer

@@ -1,16 +1,16 @@
--- The capped value of digits.
+-- What digits are worth, where a number is capped.
 use Rattle.std.proofs.Common.{◌≡◌, ℕ, ◌+◌, ◌-◌, ◌*◌, ◌≤◌, ◌<◌, min, [], ◌∷◌, length, drop, get_or, refl, arith, Bool, true, false, nat_lt, drop-cons, add-one}
 use Rattle.std.proofs.lemmas.Bool.Decides.{nat_tests}
 use Rattle.script_model.specs.Lines.{Text}
 use Rattle.script_model.specs.Script.{digits_value}
 
 -- digits after a number don't make it less
-grows : (n : ℕ) (cs : Text) → n ≤ digits_value n cs
+pub grows : (n : ℕ) (cs : Text) → n ≤ digits_value n cs
 grows n [] = omega arith
 grows n (c ∷ cs) = omega (arith, grows (10 * n + (c - 48)) cs)
 
 -- a number that is capped before the rest of its digits is capped after them
-capped : (most n : ℕ) (cs : Text) → min most (digits_value (min most n) cs) ≡ min most (digits_value n cs)
+pub capped : (most n : ℕ) (cs : Text) → min most (digits_value (min most n) cs) ≡ min most (digits_value n cs)
 capped most n cs =
     by_test (nat_lt n most) refl
   where

@@ -5,7 +5,7 @@ use Rattle.world_table.specs.Kept.{Kept, seat_at}
 use Rattle.world_table.specs.declared.seat.Seat.{Seat}
 use Rattle.world_table.specs.Stands.{Stands}
 use Rattle.world_table.proofs.Seats.{team_stands}
-use Rattle.world_table.proofs.world.World.join.Goals as goal
+use Rattle.world_table.proofs.world.World.set_team.Goals as goal
 
 pub returns-clause-stands : goal.returns-clause-stands
 returns-clause-stands c = λ edits h.
