@@ -13,7 +13,7 @@ use Rattle.protocol_laws.proofs.Reading.{leading_fixed-append}
 use Rattle.protocol_laws.proofs.PackedLaws.{packed-read}
 use Rattle.protocol_laws.proofs.IntLaws.{int-read}
 use Rattle.value_codec.specs.Reading.{is_kind, or_short, as_value, leading_value}
-use Rattle.value_codec.proofs.Signed.{signed_word, signed_long, below_word, below_long}
+use Rattle.protocol_laws.proofs.TwosComplement.{signed_word, signed_long, below_word, below_long}
 
 pub below : (n max : ℕ) → nat_lt n max ≡ true → n < max
 below n max h = grind (arith, nat_tests)

@@ -1,5 +1,4 @@
-mod Signed
-pub mod Lengths
+mod Lengths
 mod Fitting
 mod Back
 mod Spelled

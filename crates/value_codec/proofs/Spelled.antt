@@ -15,8 +15,9 @@ use Rattle.protocol_laws.proofs.PackedLaws.{packed-spelled}
 use Rattle.protocol_laws.proofs.IntLaws.{int-spelled}
 use Rattle.protocol_laws.proofs.Widths.{int_width_bound}
 use Rattle.value_codec.specs.Reading.{is_kind, has_values, or_short, as_value, leading_value}
-use Rattle.value_codec.proofs.Signed.{unsigned_word, unsigned_long, fits_word, fits_long}
-use Rattle.value_codec.proofs.Lengths.{length_fixed, length_signed}
+use Rattle.protocol_laws.proofs.TwosComplement.{unsigned_word, unsigned_long, fits_word, fits_long}
+use Rattle.protocol_laws.proofs.Digits.{length-digits}
+use Rattle.protocol_laws.proofs.Lengths.{length-signed, length-packed}
 use Rattle.value_codec.proofs.Back.{small}
 
 above : (n max : ℕ) → n < max → nat_lt n max ≡ true
@@ -107,29 +108,17 @@ value-was Kind.Guid v bits rest k o h = packed-was v bits rest h
 value-was (Kind.Enum count) v bits rest k o h = int-was count v bits rest (some_count count o) (small count k) h
 value-was (Kind.Bytes most) v bits rest k o h = absurd (cc)
 
-group_short : (b : Bool) (v m : ℕ) (more : List Bool) → length more ≤ m
-    → length (cond b (false ∷ digits 7 v) (true ∷ (digits 7 v ++ more))) ≤ m + 8
-group_short true v m more h = omega (arith, length_fixed 7 v)
-group_short false v m more h = omega (arith, length_fixed 7 v, length-append (digits 7 v) more)
-
-packed_short : (groups v : ℕ) → length (packed_in groups v) ≤ 8 * groups
-unfolding packed_in
-packed_short zero v = omega arith
-packed_short (suc groups) v =
-    let h = group_short (nat_lt v 128) v (8 * groups) (packed_in groups (v / 128)) (packed_short groups (v / 128)) in
-    omega (arith, h)
-
 pub value_short : (kind : Kind) (v : ℤ) → is_kind kind ≡ true → length (value_bits kind v) ≤ 64
-value_short Kind.Bool v k = omega (arith, length_fixed 1 (natural v))
-value_short Kind.U8 v k = omega (arith, length_fixed 8 (natural v))
-value_short Kind.I32 v k = omega (arith, length_signed 32 v)
-value_short Kind.U32 v k = omega (arith, length_fixed 32 (natural v))
-value_short Kind.I64 v k = omega (arith, length_signed 64 v)
-value_short Kind.Packed v k = omega (arith, packed_short 5 (natural v))
-value_short Kind.Guid v k = omega (arith, packed_short 5 (natural v))
+value_short Kind.Bool v k = omega (arith, length-digits 1 (natural v))
+value_short Kind.U8 v k = omega (arith, length-digits 8 (natural v))
+value_short Kind.I32 v k = omega (arith, length-signed 32 v)
+value_short Kind.U32 v k = omega (arith, length-digits 32 (natural v))
+value_short Kind.I64 v k = omega (arith, length-signed 64 v)
+value_short Kind.Packed v k = omega (arith, length-packed (natural v))
+value_short Kind.Guid v k = omega (arith, length-packed (natural v))
 value_short (Kind.Enum count) v k = omega (
   arith,
-  length_fixed (int_width count (natural v))
+  length-digits (int_width count (natural v))
       (natural v),
   int_width_bound count (natural v) (small count k),
 )

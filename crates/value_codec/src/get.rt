@@ -15,7 +15,7 @@ use protocol_model::{Kind, NumRefusal};
 ///
 /// `Short` exactly where bits are missing, and `Padded` exactly where a packed number isn't spelled
 /// in the shortest way or isn't below 2^32; the reader then stays where it was.
-#[tactic(auto, using(crate::proofs::Lengths::length_fixed, crate::proofs::Lengths::length_signed), unfolding(crate::specs::Reading::leading_value))]
+#[tactic(auto, using(crate::proofs::Lengths::spelled_lengths), unfolding(crate::specs::Reading::leading_value))]
 pub fn get_value(r: &mut BitReader<'_>, kind: Kind) -> Result<Value, NumRefusal>
     requires { IsTrue (has_values kind) }
     ensures exact { MatchResult result

@@ -1,6 +1,6 @@
 use Rattle.std.proofs.lemmas.Int.{to_z-of_z}
 use Rattle.std.specs.Int.{w64}
-use Rattle.value_codec.proofs.Signed.{signed_long}
+use Rattle.protocol_laws.proofs.TwosComplement.{signed_long}
 use Rattle.value_codec.proofs.put.put_long.Goals as goal
 
 pub returns : goal.returns
