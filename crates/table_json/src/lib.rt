@@ -6,6 +6,22 @@
 // `table_model` for which keys an object has and what each word means, on `script_model` for numbers
 // in decimal, and on `serde_json` for JSON.
 //
+//     bytes --json_of--> {"classes":[..]} --classes_of--> [{"name":"Pawn", ..}, ..]
+//                                            class_object |
+//                         name "Pawn", path "/Game/Pawn", parent null, relevancy "near", cull 1000, ..
+//
+// A caller reads objects from the top down, and each word by itself:
+//
+//     let Some(json) = json_of(alloc, bytes)? else {
+//         return Ok(None);
+//     };
+//     for element in classes_of(&json)? {
+//         let object = class_object(element)?;
+//         let reach = reach_of(object.relevancy, object.cull)?;
+//         let path = path_of(alloc, object.path)?;
+//         ..
+//     }
+//
 // It promises that each object and each word is taken exactly where the definitions take it, with
 // the meaning that they give it. It looks at no object beside another one: that names differ, that
 // parents come first and that sizes fit is left to the caller.

@@ -127,8 +127,10 @@ pub(crate) fn put_moved(actors: &mut Vec<Actor>, actor: Guid, prop: Handle, valu
         then Some (record kept { look = moved_look kept.look prop value })
         else actor_at actors.old.items a) }
 {
-    if let Some(place) = place(actor) {
-        actors[place].look = moved(actors[place].look, prop, value);
+    if let Some(kept) = record_at(actors, actor) {
+        let mut after = *kept;
+        after.look = moved(after.look, prop, value);
+        put_record(actors, actor, after);
     }
 }
 
