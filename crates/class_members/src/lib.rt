@@ -24,9 +24,7 @@ mod property;
 mod refusal;
 
 pub use call::{add_calls, check_args};
-pub use members::{
-    Call, CallList, KindList, Prop, PropList, copied_calls, copied_props,
-};
+pub use members::{Call, CallList, KindList, Prop, PropList, copied_calls, copied_props};
 pub use net_core::{Items, Memory, Text};
 pub use property::add_props;
 pub use protocol_model::{Cond, Kind, Way};

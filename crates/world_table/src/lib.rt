@@ -34,4 +34,3 @@ pub use class_layout::{Classes, Value};
 pub use edit::{Edit, EditRefusal, Look};
 pub use net_core::{Guid, Handle, Memory, Player, Steps};
 pub use world::World;
-
