@@ -3,8 +3,7 @@ use Rattle.std.proofs.Common.{ℕ, ◌+◌, ◌≤◌, List, ◌++◌, length, t
 use Rattle.std.proofs.Math.Seq.{take-append-add}
 use Rattle.std.proofs.lemmas.List.{take-append-le}
 use Rattle.std.specs.Io.KnownBytes.{Appends}
-use Rattle.net_core.specs.Faults.{Rose}
-use Rattle.net_core.specs.Taken.{AppendsFront}
+use Rattle.net_core.specs.Taken.{AppendsPrefix}
 
 -- two pieces in a row are one
 pub Appends-append : (old mid new : Option (List ℕ)) (xs ys : List ℕ) → Appends old mid xs → Appends mid new ys → Appends old new (xs ++ ys)
@@ -13,21 +12,17 @@ Appends-append (Some o) None new xs ys p q = absurd p
 Appends-append (Some o) (Some m) None xs ys p q = absurd q
 Appends-append (Some o) (Some m) (Some n) xs ys p q = q ∙ ap (λ zs. zs ++ ys) p ∙ append_assoc o xs ys
 
--- a piece and then a front of the next is a front of both
-pub AppendsFront-append : (old mid new : Option (List ℕ)) (xs ys : List ℕ) → Appends old mid xs → AppendsFront mid new ys → AppendsFront old new (xs ++ ys)
-AppendsFront-append old mid new xs ys p q =
+-- a piece and then a prefix of the next is a prefix of both
+pub AppendsPrefix-append : (old mid new : Option (List ℕ)) (xs ys : List ℕ) → Appends old mid xs → AppendsPrefix mid new ys → AppendsPrefix old new (xs ++ ys)
+AppendsPrefix-append old mid new xs ys p q =
     let n = q.0 in
     let P : List ℕ → Type 0 = λ zs. Appends old new zs in
     (length xs + n, omega (arith, q.1, length-append xs ys), subst P (sym (take-append-add xs ys n)) (Appends-append old mid new xs (take n ys) p q.2))
 
--- a front of a text is a front of each longer one
-pub AppendsFront-longer : (old new : Option (List ℕ)) (xs ys : List ℕ) → AppendsFront old new xs → AppendsFront old new (xs ++ ys)
-AppendsFront-longer old new xs ys q =
+-- a prefix of a text is a prefix of each longer one
+pub AppendsPrefix-longer : (old new : Option (List ℕ)) (xs ys : List ℕ) → AppendsPrefix old new xs → AppendsPrefix old new (xs ++ ys)
+AppendsPrefix-longer old new xs ys q =
     let n = q.0 in
     let P : List ℕ → Type 0 = λ zs. Appends old new zs in
     let within : n ≤ length xs = omega (arith, q.1) in
     (n, omega (arith, q.1, length-append xs ys), subst P (sym (take-append-le n xs ys within)) q.2)
-
--- a count that rose and didn't fall afterwards rose
-pub Rose-kept : (before mid now : ℕ) → Rose before mid → mid ≤ now → Rose before now
-Rose-kept before mid now p q = (omega (arith, p.0), λ e. omega (arith, p.0, p.1))

@@ -1,15 +1,22 @@
--- Calls that are to fail, by their numbers: the first call is number 1.
-use Rattle.std.specs.Prelude.{ℕ, ◌+◌, ◌-◌, ◌^◌, min, Bool, List, count_by, nat_le, nat_eq}
+-- Calls that are counted, and those of them that are to fail, by their numbers: the first is number 1.
+use Rattle.std.specs.Prelude.{ℕ, ◌+◌, Bool, List, nat_eq, if◌then◌else◌}
 use Rattle.std.specs.List.{list_any}
+use Rattle.net_core.specs.Counts.{one_more}
 
--- how many calls there are after one more; they are counted in a `u64`
-abbrev pub calls_after : ℕ → ℕ
-calls_after calls = min (calls + 1) (2 ^ 64 - 1)
+-- how many calls were made and how many of them failed, with the numbers of those that are to fail
+pub record Calls : Type 0 where
+  pub made : ℕ
+  pub faults : ℕ
+  pub failing : List ℕ
 
 -- the next call is one that is to fail
-abbrev pub next_fails : ℕ → List ℕ → Bool
-next_fails calls failing = list_any (λ n. nat_eq n (calls + 1)) failing
+abbrev pub next_fails : Calls → Bool
+next_fails calls = list_any (λ n. nat_eq n (calls.made + 1)) calls.failing
 
--- how many of the calls that are to fail were made
-abbrev pub past_faults : ℕ → List ℕ → ℕ
-past_faults calls failing = count_by (λ n. nat_le n calls) failing
+-- one more call was made, and is a fault if it is one that is to fail
+abbrev pub after_call : Calls → Calls
+after_call calls =
+    record calls {
+      made = one_more calls.made;
+      faults = if next_fails calls then one_more calls.faults else calls.faults;
+    }

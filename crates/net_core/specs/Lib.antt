@@ -1,5 +1,5 @@
+pub mod Counts
 pub mod Failing
-pub mod Faults
 pub mod Folder
 pub mod InMemory
 pub mod Taken

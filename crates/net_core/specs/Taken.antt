@@ -8,6 +8,6 @@ abbrev pub Takes : {E : Type 0} → Option (List ℕ) → Option (List ℕ)
 Takes old new answer bytes =
     MatchResult answer (λ n. Appends old new (take n bytes)) (λ _. Keeps old new)
 
--- a front of the bytes, without the last of them, was appended to what was taken
-abbrev pub AppendsFront : Option (List ℕ) → Option (List ℕ) → List ℕ → Type 0
-AppendsFront old new bytes = (n : ℕ) × (n < length bytes) × Appends old new (take n bytes)
+-- a prefix of the bytes, without the last of them, was appended to what was taken
+abbrev pub AppendsPrefix : Option (List ℕ) → Option (List ℕ) → List ℕ → Type 0
+AppendsPrefix old new bytes = (n : ℕ) × (n < length bytes) × Appends old new (take n bytes)

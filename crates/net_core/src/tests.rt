@@ -46,7 +46,7 @@ fn reads_the_first_file_of_a_name(rt: HostRuntime) -> Result<(), Fail> {
 }
 
 #[test]
-fn a_write_takes_a_front_of_its_piece(rt: HostRuntime) -> Result<(), Fail> {
+fn a_write_takes_a_prefix_of_its_piece(rt: HostRuntime) -> Result<(), Fail> {
     let mut out = MemSink::with_limit(rt.alloc(), vec![in rt.alloc(); 2, 5]?, 3);
     let table: [(&[u8], Result<usize, WriteRefusal>, &[u8]); 5] = [
         (b"abcd", Ok(3), b"abc"),
@@ -65,7 +65,7 @@ fn a_write_takes_a_front_of_its_piece(rt: HostRuntime) -> Result<(), Fail> {
 }
 
 #[test]
-fn a_failing_write_leaves_a_front_of_the_text(rt: HostRuntime) -> Result<(), Fail> {
+fn a_failing_write_leaves_a_prefix_of_the_text(rt: HostRuntime) -> Result<(), Fail> {
     let table: [(u64, bool, &[u8]); 6] = [
         (0, true, b"0123456789"),
         (1, false, b""),
@@ -99,6 +99,30 @@ fn a_list_keeps_its_items(rt: HostRuntime) -> Result<(), Fail> {
     assert!(rt; copy != guids);
     assert_eq!(rt; copy.get(1).copied(), Some(Guid(3)));
     assert_eq!(rt; copy.get(2).copied(), None);
+    let mut sum: u64 = 0;
+    for guid in guids.iter() {
+        sum = sum.wrapping_mul(10).wrapping_add(u64::from(guid.0));
+    }
+    assert_eq!(rt; sum, 430);
+    Ok(())
+}
+
+#[test]
+fn refusals_say_what_is_wrong(rt: HostRuntime) -> Result<(), Fail> {
+    let alloc = rt.alloc();
+    for (refusal, text) in [
+        (ReadRefusal::Missing, "there is no such file"),
+        (ReadRefusal::Failed, "the file could not be read"),
+        (ReadRefusal::Memory, "there was no memory for the file"),
+    ] {
+        assert_eq!(rt; format!(in alloc; "{}", refusal)?.as_str(), text);
+    }
+    for (refusal, text) in [
+        (WriteRefusal::Failed, "the output could not be written"),
+        (WriteRefusal::Memory, "there was no memory for the output"),
+    ] {
+        assert_eq!(rt; format!(in alloc; "{}", refusal)?.as_str(), text);
+    }
     Ok(())
 }
 

@@ -1,10 +1,14 @@
-// One list type for all the lists of the crates above.
+// Lists: one type for all the lists of the crates above.
 ghost use Rattle.std.specs.Prelude.{◌≡◌, ◌==◌, [], ◌∷◌, ◌++◌, length, slice_get, IfOk, OnOk, OnErr};
 ghost use Rattle.std.specs.Option.{option_copied};
+ghost use Rattle.std.specs.Slice.Iter.{iter_rest};
+ghost use Rattle.std.specs.Iterator.Adapters.{IterYieldsInOrder};
 
+use crate::names::{Guid, Handle, Player, Text};
 use bit_io::Memory;
 use std::alloc::Global;
 use std::marker::Model;
+use std::slice::Iter;
 
 /// Items in order, seen as a list.
 #[derive(Debug, Drop)]
@@ -59,6 +63,14 @@ impl<T> Items<T> {
         self.items.as_slice().get(place)
     }
 
+    /// The items one after another.
+    pub fn iter(&self) -> Iter<'_, T>
+        ensures rest { iter_rest result ≡ self.now }
+        ensures runs { IterYieldsInOrder T }
+    {
+        self.items.as_slice().iter()
+    }
+
     /// How many items there are.
     pub fn len(&self) -> usize
         ensures { result ≡ length self.now }
@@ -107,3 +119,15 @@ impl<T: Drop> Items<T> {
         Ok(())
     }
 }
+
+/// A list of NetGUIDs.
+pub type GuidList = Items<Guid>;
+
+/// A list of handles.
+pub type HandleList = Items<Handle>;
+
+/// A list of players.
+pub type PlayerList = Items<Player>;
+
+/// A list of texts.
+pub type TextList = Items<Text>;

@@ -3,9 +3,9 @@ ghost use Rattle.std.specs.Prelude.{◌≡◌, IfOk};
 ghost use Rattle.std.specs.Option.{option_copied};
 ghost use Rattle.net_core.specs.Folder.{contents_of};
 
-use crate::counted::counts_call;
-use crate::outside::{Files, ReadRefusal};
-use crate::text::Text;
+use super::counted::Calls;
+use super::files::{Files, ReadRefusal};
+use crate::names::Text;
 use bit_io::{Blob, Memory};
 use std::alloc::Global;
 use std::marker::Model;
@@ -32,14 +32,13 @@ impl Entry {
     }
 }
 
-/// A folder in memory, whose calls of given numbers fail: the first call is number 1. Its count of
-/// faults is how many of these calls were made.
+/// A folder in memory, whose calls of given numbers fail: the first call is number 1. Each of these
+/// that was made is one fault.
 #[derive(Debug, Drop)]
 pub struct MemFiles {
     alloc: Global,
     entries: Vec<Entry>,
-    failing: Vec<u64>,
-    calls: u64,
+    calls: Calls,
 }
 
 impl Model for MemFiles {
@@ -47,48 +46,51 @@ impl Model for MemFiles {
 
     ghost Value = { MemoryFolder };
 
-    ghost view = { λ m.
-        record { entries = m.entries.items; failing = m.failing.items; calls = m.calls } };
+    ghost view = { λ m. record { entries = m.entries.items; calls = m.calls } };
 }
 
 impl MemFiles {
     /// A folder of these files, whose calls of these numbers are to fail.
     pub fn new(alloc: Global, entries: Vec<Entry>, failing: Vec<u64>) -> MemFiles
-        ensures { result ≡
-            record { entries = entries.items; failing = failing.items; calls = 0 } }
+        ensures { result ≡ record {
+          entries = entries.items;
+          calls = record { made = 0; faults = 0; failing = failing.items };
+        } }
     {
         MemFiles {
             alloc,
             entries,
-            failing,
-            calls: 0,
+            calls: Calls::new(failing),
         }
     }
 }
 
 impl Files for MemFiles {
     ghost use Rattle.std.specs.Prelude.{◌≡◌, ◌↔◌, IfOk, IsErrOf, Some, true};
-    ghost use Rattle.net_core.specs.Failing.{calls_after, next_fails, past_faults};
-    ghost use Rattle.net_core.specs.Faults.{ReadCause};
-    ghost use Rattle.net_core.specs.Folder.{Gives, Lacks};
+    ghost use Rattle.net_core.specs.Counts.{ReadCause, Rose};
+    ghost use Rattle.net_core.specs.Failing.{after_call, next_fails};
+    ghost use Rattle.net_core.specs.Folder.{Gives, Has, Lacks};
 
     ghost folder = { λ m. Some m.entries };
 
-    ghost faults = { λ m. past_faults m.calls m.failing };
+    ghost reads = { λ m. m.calls.made };
+
+    ghost faults = { λ m. m.calls.faults };
 
     /// The contents of the first file of that name. `Failed` comes exactly at a call that is to
     /// fail, whatever the name.
     fn read(&mut self, name: &str) -> Result<Blob, ReadRefusal>
-        ensures calls { self.new ≡ record self.old { calls = calls_after self.old.calls } }
-        ensures failed { IsErrOf result ReadRefusal.Failed
-            ↔ (next_fails self.old.calls self.old.failing ≡ true) }
+        ensures calls { self.new ≡ record self.old { calls = after_call self.old.calls } }
+        ensures failed { IsErrOf result ReadRefusal.Failed ↔ (next_fails self.old.calls ≡ true) }
         ensures found { IfOk result (λ contents. Gives (Some self.old.entries) name.now contents) }
         ensures missing { IsErrOf result ReadRefusal.Missing
             → Lacks (Some self.old.entries) name.now }
-        ensures cause { ReadCause (past_faults self.old.calls self.old.failing)
-            (past_faults self.new.calls self.new.failing) result }
+        ensures memory { IsErrOf result ReadRefusal.Memory
+            → Has (Some self.old.entries) name.now }
+        ensures read { Rose self.old.calls.made self.new.calls.made }
+        ensures cause { ReadCause self.old.calls.faults self.new.calls.faults result }
     {
-        if counts_call(&mut self.calls, &self.failing) {
+        if self.calls.fails() {
             return Err(ReadRefusal::Failed);
         }
         let Some(contents) = first_named(&self.entries, name) else {

@@ -1,5 +1,4 @@
 // Numbers that name things. Contracts see each as the number that it holds.
-use crate::items::Items;
 use std::marker::Model;
 
 /// A NetGUID: 0 is none, 2n is the n-th actor spawned, 2n + 1 the n-th path segment, n from 1.
@@ -43,12 +42,3 @@ impl Model for Player {
 
     ghost inverse = { λ n. record { 0 = n } };
 }
-
-/// A list of NetGUIDs.
-pub type GuidList = Items<Guid>;
-
-/// A list of handles.
-pub type HandleList = Items<Handle>;
-
-/// A list of players.
-pub type PlayerList = Items<Player>;

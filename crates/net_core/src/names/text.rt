@@ -1,7 +1,6 @@
 // Names.
 ghost use Rattle.std.specs.Prelude.{◌≡◌, ◌==◌, length, string_bytes, IfOk, IsUtf8, IsErr};
 
-use crate::items::Items;
 use bit_io::Memory;
 use std::alloc::Global;
 use std::marker::Model;
@@ -99,6 +98,3 @@ impl Text {
         self.text.is_empty()
     }
 }
-
-/// A list of texts.
-pub type TextList = Items<Text>;

@@ -2,7 +2,7 @@ use Rattle.std.proofs.Common.{◌≡◌, ◌≤◌, ◌-◌, length, take, drop,
 use Rattle.std.proofs.lemmas.List.{take_rest}
 use Rattle.std.specs.Io.KnownBytes.{Appends}
 use Rattle.net_core.proofs.Written.{Appends-append}
-use Rattle.net_core.proofs.writing.write_all.Goals as goal
+use Rattle.net_core.proofs.outside.writing.write_all.Goals as goal
 
 pub loop-done-preserved : goal.loop-done-preserved
 loop-done-preserved g c =
@@ -15,5 +15,6 @@ loop-done-preserved g c =
     record {
       within = omega (arith, few, length-drop done bytes);
       taken = rw (take-add done n bytes) (Appends-append _ _ _ (take done bytes) (take n (drop done bytes)) c.loop-done.invariant.taken more);
-      kept = cc (c.in_ok-done.ensures.cause);
+      no_fault = cc (c.in_ok-done.ensures.cause);
+      no_shortage = cc (c.in_ok-done.ensures.shortage);
     }

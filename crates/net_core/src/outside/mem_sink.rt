@@ -1,19 +1,20 @@
 // A sink in memory.
-ghost use Rattle.std.specs.Prelude.{◌≡◌, ◌<◌, ◌-◌, ◌^◌, []};
+ghost use Rattle.std.specs.Prelude.{◌≡◌, ◌<◌, ◌-◌, ◌^◌};
+ghost use Rattle.net_core.specs.InMemory.{empty_sink};
 
-use crate::counted::counts_call;
-use crate::outside::{Sink, WriteRefusal};
+use super::counted::Calls;
+use super::sink::{Sink, WriteRefusal};
 use std::alloc::Global;
 use std::marker::Model;
 
 /// Keeps what it takes, at most a given number of bytes a write, and fails at the calls of given
-/// numbers: the first call is number 1. Its count of faults is how many of these calls were made.
+/// numbers: the first call is number 1. Each of these that was made is one fault.
 #[derive(Debug, Drop)]
 pub struct MemSink {
     bytes: Vec<u8>,
     longest: usize,
-    failing: Vec<u64>,
-    calls: u64,
+    calls: Calls,
+    shortages: u64,
 }
 
 impl Model for MemSink {
@@ -22,8 +23,12 @@ impl Model for MemSink {
 
     ghost Value = { MemorySink };
 
-    ghost view = { λ m.
-        record { bytes = m.bytes.items; longest = m.longest; failing = m.failing.items; calls = m.calls } };
+    ghost view = { λ m. record {
+      bytes = m.bytes.items;
+      longest = m.longest;
+      calls = m.calls;
+      shortages = m.shortages;
+    } };
 
     ghost invariant = { λ m. 0 < m.longest };
 }
@@ -31,23 +36,21 @@ impl Model for MemSink {
 impl MemSink {
     /// An empty sink that takes whole pieces, and whose calls of these numbers are to fail.
     pub fn new(alloc: Global, failing: Vec<u64>) -> MemSink
-        ensures { result ≡
-            record { bytes = []; longest = 2 ^ 64 - 1; failing = failing.items; calls = 0 } }
+        ensures { result ≡ empty_sink (2 ^ 64 - 1) failing.items }
     {
         MemSink::with_limit(alloc, failing, usize::MAX)
     }
 
-    /// An empty sink that takes at most so many bytes a write, at least one.
+    /// An empty sink that takes at most `longest` bytes a write, at least one.
     pub fn with_limit(alloc: Global, failing: Vec<u64>, longest: usize) -> MemSink
         requires { 0 < longest }
-        ensures { result ≡
-            record { bytes = []; longest = longest; failing = failing.items; calls = 0 } }
+        ensures { result ≡ empty_sink longest failing.items }
     {
         MemSink {
             bytes: Vec::new(alloc),
             longest,
-            failing,
-            calls: 0,
+            calls: Calls::new(failing),
+            shortages: 0,
         }
     }
 
@@ -68,13 +71,15 @@ impl MemSink {
 
 impl Sink for MemSink {
     ghost use Rattle.std.specs.Prelude.{◌≡◌, ◌<◌, ◌≤◌, ◌↔◌, IfOk, IsErrOf, Some, true, length, min};
-    ghost use Rattle.net_core.specs.Failing.{calls_after, next_fails, past_faults};
-    ghost use Rattle.net_core.specs.Faults.{WriteCause};
+    ghost use Rattle.net_core.specs.Counts.{WriteCause, WriteShortage};
+    ghost use Rattle.net_core.specs.Failing.{after_call, next_fails};
     ghost use Rattle.net_core.specs.Taken.{Takes};
 
     ghost taken = { λ m. Some m.bytes };
 
-    ghost faults = { λ m. past_faults m.calls m.failing };
+    ghost faults = { λ m. m.calls.faults };
+
+    ghost shortages = { λ m. m.shortages };
 
     /// Takes as much of the piece as a write may. `Failed` comes exactly at a call that is to fail.
     fn write(&mut self, bytes: &[u8]) -> Result<usize, WriteRefusal>
@@ -82,18 +87,19 @@ impl Sink for MemSink {
         ensures count { IfOk result (λ n. (0 < n) × (n ≤ length bytes.now)) }
         ensures most { IfOk result (λ n. n ≡ min (length bytes.now) self.old.longest) }
         ensures taken { Takes (Some self.old.bytes) (Some self.new.bytes) result bytes.now }
-        ensures kept { self.new ≡
-            record self.old { bytes = self.new.bytes; calls = calls_after self.old.calls } }
+        ensures longest { self.new.longest ≡ self.old.longest }
+        ensures calls { self.new.calls ≡ after_call self.old.calls }
         ensures failed { IsErrOf result WriteRefusal.Failed
-            ↔ (next_fails self.old.calls self.old.failing ≡ true) }
-        ensures cause { WriteCause (past_faults self.old.calls self.old.failing)
-            (past_faults self.new.calls self.new.failing) result }
+            ↔ (next_fails self.old.calls ≡ true) }
+        ensures cause { WriteCause self.old.calls.faults self.new.calls.faults result }
+        ensures shortage { WriteShortage self.old.shortages self.new.shortages result }
     {
-        if counts_call(&mut self.calls, &self.failing) {
+        if self.calls.fails() {
             return Err(WriteRefusal::Failed);
         }
         let count = bytes.len().min(self.longest);
         if self.bytes.extend_from_slice(&bytes[..count]).is_err() {
+            self.shortages = self.shortages.saturating_add(1);
             return Err(WriteRefusal::Memory);
         }
         Ok(count)

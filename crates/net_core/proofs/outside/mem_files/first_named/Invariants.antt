@@ -1,6 +1,6 @@
 use Rattle.std.proofs.Common.{◌≡◌, drop}
 use Rattle.net_core.specs.Folder.{contents_of}
-use Rattle.net_core.proofs.mem_files.first_named.Given as goal
+use Rattle.net_core.proofs.outside.mem_files.first_named.Given as goal
 
 -- no file so far has the name
 abbrev pub invariant-loop-entry : goal.invariant-loop-entry
