@@ -1,3 +1,5 @@
-pub mod Replayed
-pub mod Played
-pub mod Statuses
+mod Answered
+mod Named
+mod Played
+mod Reading
+mod Told

@@ -10,11 +10,11 @@ use Rattle.script_model.specs.Lines.{Line, Text}
 use Rattle.script_text.specs.declared.line.Line.{Line as ReadLine}
 use Rattle.script_text.specs.LineOf.{line_of}
 use Rattle.script_model.specs.Reports.{report_text}
-use Rattle.net_core.specs.Taken.{AppendsFront}
-use Rattle.net_core.proofs.Written.{Appends-append, AppendsFront-append, AppendsFront-longer}
+use Rattle.net_core.specs.Taken.{AppendsPrefix}
+use Rattle.net_core.proofs.Written.{Appends-append, AppendsPrefix-append, AppendsPrefix-longer}
 use Rattle.replay_core.specs.FirstPath.{all_follow, may_follow, first_transcript, reports_of, reports_after}
 use Rattle.replay_core.specs.Kept.{Kept, Stands}
-use Rattle.unet.specs.Ends.{TakesFront}
+use Rattle.unet.specs.Ends.{TakesPrefix}
 
 -- the text of lines that come after those before
 abbrev pub text_after : (before lines : List Line) → Text
@@ -73,20 +73,20 @@ goes_on kept after line rest whole text old mid new p told stands taken =
     }
 
 -- what was taken begins the whole text
-pub front : (kept : Kept) (rest : List Line) (whole : Text) (old new : Option (List ℕ)) → IsPlayed kept rest whole old new → TakesFront old new whole
-front kept rest whole old new p =
+pub prefix : (kept : Kept) (rest : List Line) (whole : Text) (old new : Option (List ℕ)) → IsPlayed kept rest whole old new → TakesPrefix old new whole
+prefix kept rest whole old new p =
     let more = text_after p.before rest in
     let P : List ℕ → Type 0 = λ zs. Appends old new zs in
-    let T : List ℕ → Type 0 = λ ws. TakesFront old new ws in
+    let T : List ℕ → Type 0 = λ ws. TakesPrefix old new ws in
     let begins_whole : take (length p.done) (p.done ++ more) ≡ p.done = take-append-le (length p.done) p.done more (omega arith) ∙ take-length p.done in
     subst T (sym p.text) (length p.done, omega (arith, length-append p.done more), subst P (sym begins_whole) p.taken)
 
--- a front of a line's text was taken behind it
-pub front_of_line : (kept : Kept) (line : Line) (rest : List Line) (whole text : Text) (old mid new : Option (List ℕ)) → IsPlayed kept (line ∷ rest) whole old mid → ((before : List Line) → Stands kept before → text ≡ flat_map report_text (reports_of before line)) → AppendsFront mid new text → TakesFront old new whole
-front_of_line kept line rest whole text old mid new p told taken =
+-- a prefix of a line's text was taken behind it
+pub prefix_of_line : (kept : Kept) (line : Line) (rest : List Line) (whole text : Text) (old mid new : Option (List ℕ)) → IsPlayed kept (line ∷ rest) whole old mid → ((before : List Line) → Stands kept before → text ≡ flat_map report_text (reports_of before line)) → AppendsPrefix mid new text → TakesPrefix old new whole
+prefix_of_line kept line rest whole text old mid new p told taken =
     let more = text_after (line ∷ p.before) rest in
-    let T : List ℕ → Type 0 = λ ws. TakesFront old new ws in
-    let q = AppendsFront-longer old new (p.done ++ text) more (AppendsFront-append old mid new p.done text p.taken taken) in
+    let T : List ℕ → Type 0 = λ ws. TakesPrefix old new ws in
+    let q = AppendsPrefix-longer old new (p.done ++ text) more (AppendsPrefix-append old mid new p.done text p.taken taken) in
     subst T (sym (text_with kept line rest whole text old mid p (told p.before p.stands))) (q.0, omega (arith, q.1), q.2)
 
 -- after the last line the whole text was taken

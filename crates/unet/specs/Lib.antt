@@ -1,4 +1,5 @@
-pub mod Words
-pub mod Outcome
-pub mod Ends
 pub mod Causes
+pub mod Ends
+pub mod Outcome
+pub mod Statuses
+pub mod Words

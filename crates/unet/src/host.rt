@@ -1,28 +1,27 @@
 // The edge to the system: files by name, and standard output.
 //
-// It tells nothing of what files hold and of what was written, since no contract can say that of the
-// system. A test reads a real file, and the stored run shows that output is written.
-ghost use Rattle.std.specs.Prelude.{◌≡◌, ◌<◌, ◌≤◌, List, ℕ, Option, None};
+// No contract can say what the system's files hold and what it does with output, so `HostFiles` tells
+// no folder, and `HostSink` tells what it took only where its writer does. Of a file that was opened
+// `read_all` promises the rest; tests read and write real files.
+ghost use Rattle.std.specs.Prelude.{◌≡◌, None};
+ghost use Rattle.std.specs.Io.{WritesAtMost};
+ghost use Rattle.std.specs.Io.KnownBytes.{WriteAppends};
 
+use crate::read_all::read_all;
 use net_core::{Blob, Files, ReadRefusal, Sink, WriteRefusal};
 use std::alloc::Global;
-use std::io::{ErrorKind, Read, Write};
-use std::{fs, rt};
+use std::io::{ErrorKind, Write};
+use std::{fs, io, rt};
 
-/// The most bytes that a file may have; a longer one is a failed read.
-const MOST_BYTES: usize = 67_108_864;
-
-/// How many bytes are read at once.
-const PIECE: usize = 65_536;
-
-/// The system's files, with a count of faults.
+/// The system's files, with counts of reads and faults.
 ///
 /// A name that isn't found is `Missing`. Anything else that goes wrong is a fault: a name that is a
-/// folder or runs through a plain file, and a file of over 67,108,864 bytes.
+/// folder or runs through a plain file, a file that may not be read, and one that is too long.
 #[derive(Drop)]
 pub struct HostFiles<'a, R: rt::Files> {
     alloc: Global,
     rt: &'a R,
+    reads: u64,
     faults: u64,
 }
 
@@ -31,6 +30,7 @@ impl<'a, R: rt::Files> HostFiles<'a, R> {
         HostFiles {
             alloc,
             rt,
+            reads: 0,
             faults: 0,
         }
     }
@@ -39,51 +39,31 @@ impl<'a, R: rt::Files> HostFiles<'a, R> {
 impl<'a, R: rt::Files> Files for HostFiles<'a, R> {
     ghost folder = { λ _. None };
 
+    ghost reads = { λ m. m.reads };
+
     ghost faults = { λ m. m.faults };
 
     fn read(&mut self, name: &str) -> Result<Blob, ReadRefusal> {
+        self.reads = self.reads.saturating_add(1);
         match read_file(self.alloc, self.rt, name) {
             Err(ReadRefusal::Failed) => {
                 self.faults = self.faults.saturating_add(1);
                 Err(ReadRefusal::Failed)
             }
-            read => read,
+            answer => answer,
         }
     }
 }
 
 /// All the bytes of a file.
 fn read_file<R: rt::Files>(alloc: Global, rt: &R, name: &str) -> Result<Blob, ReadRefusal> {
-    let mut file = match fs::open(rt, name) {
-        Ok(file) => file,
-        Err(error) => return Err(refusal_of(error.kind())),
-    };
-    let mut bytes = Blob::new(alloc);
-    let Ok(mut piece) = vec![in alloc; 0; PIECE] else {
-        return Err(ReadRefusal::Memory);
-    };
-    for _ in 0..u64::MAX {
-        match file.read(&mut piece) {
-            Ok(0) => return Ok(bytes),
-            Ok(count) => {
-                if bytes.len() + count > MOST_BYTES {
-                    return Err(ReadRefusal::Failed);
-                }
-                if bytes.extend_from_slice(&piece[..count]).is_err() {
-                    return Err(ReadRefusal::Memory);
-                }
-            }
-            Err(error) => {
-                if error.kind() != ErrorKind::Interrupted {
-                    return Err(refusal_of(error.kind()));
-                }
-            }
-        }
+    match fs::open(rt, name) {
+        Ok(file) => read_all(alloc, file),
+        Err(error) => Err(refusal_of(error.kind())),
     }
-    Err(ReadRefusal::Failed)
 }
 
-/// What an error of the system says of a read.
+/// What an error of the system says of opening a file.
 fn refusal_of(kind: ErrorKind) -> ReadRefusal {
     match kind {
         ErrorKind::NotFound => ReadRefusal::Missing,
@@ -92,7 +72,8 @@ fn refusal_of(kind: ErrorKind) -> ReadRefusal {
     }
 }
 
-/// A writer of std, with a count of faults. A write that takes nothing is a fault.
+/// A writer of std, with a count of faults. A write that takes nothing is a fault; it takes no memory
+/// of the program's.
 #[derive(Drop)]
 pub struct HostSink<W: Write + Drop> {
     inner: W,
@@ -110,8 +91,10 @@ impl<W: Write + Drop> Sink for HostSink<W> {
 
     ghost faults = { λ s. s.faults };
 
+    ghost shortages = { λ _. 0 };
+
     fn write(&mut self, bytes: &[u8]) -> Result<usize, WriteRefusal> {
-        match self.inner.write(bytes) {
+        match write_retrying(&mut self.inner, bytes) {
             Ok(count) if count > 0 => Ok(count),
             _ => {
                 self.faults = self.faults.saturating_add(1);
@@ -119,4 +102,18 @@ impl<W: Write + Drop> Sink for HostSink<W> {
             }
         }
     }
+}
+
+/// One write, tried again where it was interrupted.
+fn write_retrying<W: Write>(inner: &mut W, bytes: &[u8]) -> io::Result<usize>
+    ensures bound { WritesAtMost result bytes.now }
+    ensures bytes { WriteAppends (W.contents inner.old) (W.contents inner.new) result bytes.now }
+{
+    for _ in 0..u64::MAX {
+        match inner.write(bytes) {
+            Err(error) if error.kind() == ErrorKind::Interrupted => {}
+            answer => return answer,
+        }
+    }
+    Err(io::Error::from(ErrorKind::Interrupted))
 }

@@ -1,127 +1,109 @@
-// What a run does: the words, then the script's file, then the script, and then its lines.
-ghost use Rattle.std.specs.Prelude.{◌≡◌, ◌⊎◌, ◌++◌, ◌∷◌, [], ℕ, List, map, string_bytes, true, false, IfOk, OnOk, OnErr, IsTrue, Some, None, Ok, Err, IsErrOf};
-ghost use Rattle.std.specs.Io.KnownBytes.{Appends};
-ghost use Rattle.protocol_model.specs.BuiltIn.{built_in_table};
-ghost use Rattle.script_model.specs.ScriptRules.{Reads};
-ghost use Rattle.script_model.specs.Lines.{Line};
-ghost use Rattle.net_core.specs.Faults.{Rose, WriteCause};
-ghost use Rattle.net_core.specs.Folder.{Folder, contents_of, Gives, Lacks};
-ghost use Rattle.replay_core.specs.FirstPath.{all_follow, first_transcript};
-ghost use Rattle.script_text.specs.Built.{built_script};
+// What a run does: the words, then the read of the script's file, then what it answered.
+ghost use Rattle.std.specs.Prelude.{◌≡◌, ◌⊎◌, ℕ, List, map, string_bytes, true, false, IfOk, OnErr, Some, Ok, Err};
+ghost use Rattle.net_core.specs.Counts.{one_more, Rose, WriteCause, WriteShortage};
+ghost use Rattle.net_core.specs.Folder.{Folder, contents_of, Lacks};
 ghost use Rattle.unet.specs.Words.{is_replay, script_in};
-ghost use Rattle.unet.specs.Outcome.{outcome_of, outcome_of_file, outcome_of_script, words_refused, file_missing, script_refused};
-ghost use Rattle.unet.specs.Causes.{HasBadScript, HasGoodScript};
-ghost use Rattle.unet.specs.Ends.{TakesFront, IsAsTold, Ends, NoFault, RunCause};
+ghost use Rattle.unet.specs.Statuses.{replay_done, words_unknown, no_file, bad_script, outside_failed, no_memory, IsEarly, IsStatus};
+ghost use Rattle.unet.specs.Outcome.{ReadAnswer, outcome_after, outcome_of, words_refused};
+ghost use Rattle.unet.specs.Causes.{IsAccepted, IsRefused, TakesTranscript, NoFault, OneFault, reads_after};
+ghost use Rattle.unet.specs.Ends.{Ends, EndsWith, TakesPrefix};
 
-use crate::play::play;
+use crate::answer::answer;
+use crate::status::{NO_MEMORY, OUTSIDE_FAILED, WORDS_UNKNOWN};
 use crate::words::script_name;
-use net_core::{Files, ReadRefusal, Sink, WriteRefusal, write_all};
-use script_text::{ScriptRefusal, read_script};
+use net_core::{Files, Sink, WriteRefusal, write_all};
 use std::alloc::Global;
 
-/// Does what the words say, and answers the status.
+/// Does what the words say, and answers the status: one of those of `specs/Statuses`.
 ///
-/// 0: the script was replayed, and its transcript written. 2: the words aren't understood. 3: there
-/// is no such file. 5: a line of the script is refused. Each of 2, 3 and 5 writes one line that says
-/// so, and nothing else. 6: a read or a write failed. 8: there was no memory. With 6 or 8 a front of
+/// Words that aren't understood, a missing file and a script with a refused line write one line that
+/// says so, and nothing else. Where a read or a write failed, or there was no memory, a prefix of
 /// what would have been written was.
 pub fn run<F: Files, S: Sink>(alloc: Global, words: &[String], files: &mut F, out: &mut S) -> u8
-    ensures statuses { (result ≡ 0) ⊎ (result ≡ 2) ⊎ (result ≡ 3) ⊎ (result ≡ 5) ⊎ (result ≡ 6) ⊎ (result ≡ 8) }
+    ensures statuses { IsStatus result }
 
-    // Where the folder is told, the run ends as the definitions say.
-    ensures outcome { (folder : Folder) → F.folder files.old ≡ Some folder → Ends (outcome_of folder (map string_bytes words.now)) result (S.taken out.old) (S.taken out.new) }
+    // The run ends as the definition says of what the read answered, told folder or not.
+    ensures answered { (read : ReadAnswer) × Ends (outcome_after (map string_bytes words.now) read)
+        result (S.taken out.old) (S.taken out.new) }
+
+    // Where the folder is told, the run ends as the definition says of it.
+    ensures outcome { (folder : Folder) → F.folder files.old ≡ Some folder
+        → Ends (outcome_of folder (map string_bytes words.now))
+        result (S.taken out.old) (S.taken out.new) }
 
     // A transcript is that of the lines which the rules of every script read from the file.
-    ensures transcript { result ≡ 0 → (folder : Folder) → F.folder files.old ≡ Some folder → (script : List ℕ) × (lines : List Line) × (contents_of folder (script_in (map string_bytes words.now)) ≡ Some script) × Reads built_in_table false script lines × Appends (S.taken out.old) (S.taken out.new) (first_transcript lines) }
+    ensures transcript { result ≡ replay_done
+        → (folder : Folder) → F.folder files.old ≡ Some folder
+        → (script : List ℕ)
+        × (contents_of folder (script_in (map string_bytes words.now)) ≡ Some script)
+        × TakesTranscript script (S.taken out.old) (S.taken out.new) }
 
     // When each refusal comes, both ways.
-    ensures words_refused { result ≡ 2 → is_replay (map string_bytes words.now) ≡ false }
-    ensures words_first { is_replay (map string_bytes words.now) ≡ false → (result ≡ 2) ⊎ (result ≡ 6) ⊎ (result ≡ 8) }
-    ensures no_file { result ≡ 3 → (folder : Folder) → F.folder files.old ≡ Some folder → Lacks (Some folder) (script_in (map string_bytes words.now)) }
-    ensures file_next { (folder : Folder) → F.folder files.old ≡ Some folder → is_replay (map string_bytes words.now) ≡ true → Lacks (Some folder) (script_in (map string_bytes words.now)) → (result ≡ 3) ⊎ (result ≡ 6) ⊎ (result ≡ 8) }
-    ensures script_refused { result ≡ 5 → (folder : Folder) → F.folder files.old ≡ Some folder → HasBadScript folder (map string_bytes words.now) }
-    ensures script_next { (folder : Folder) → F.folder files.old ≡ Some folder → is_replay (map string_bytes words.now) ≡ true → HasBadScript folder (map string_bytes words.now) → (result ≡ 5) ⊎ (result ≡ 6) ⊎ (result ≡ 8) }
+    ensures words_refused { result ≡ words_unknown → is_replay (map string_bytes words.now) ≡ false }
+    ensures words_first { is_replay (map string_bytes words.now) ≡ false
+        → (result ≡ words_unknown) ⊎ IsEarly result }
+    ensures no_file { result ≡ no_file
+        → (folder : Folder) → F.folder files.old ≡ Some folder
+        → Lacks (Some folder) (script_in (map string_bytes words.now)) }
+    ensures file_next { is_replay (map string_bytes words.now) ≡ true
+        → (folder : Folder) → F.folder files.old ≡ Some folder
+        → Lacks (Some folder) (script_in (map string_bytes words.now))
+        → (result ≡ no_file) ⊎ IsEarly result }
+    ensures script_refused { result ≡ bad_script
+        → (folder : Folder) → F.folder files.old ≡ Some folder
+        → (script : List ℕ)
+        × (contents_of folder (script_in (map string_bytes words.now)) ≡ Some script)
+        × IsRefused script }
+    ensures script_next { is_replay (map string_bytes words.now) ≡ true
+        → (folder : Folder) → F.folder files.old ≡ Some folder
+        → (script : List ℕ)
+        → contents_of folder (script_in (map string_bytes words.now)) ≡ Some script
+        → IsRefused script → (result ≡ bad_script) ⊎ IsEarly result }
 
     // With accepted words, a good script and no fault, all is done, or there was no memory.
-    ensures complete { (folder : Folder) → F.folder files.old ≡ Some folder → is_replay (map string_bytes words.now) ≡ true → HasGoodScript folder (map string_bytes words.now) → (result ≡ 0) ⊎ (result ≡ 6) ⊎ (result ≡ 8) }
+    ensures complete { is_replay (map string_bytes words.now) ≡ true
+        → (folder : Folder) → F.folder files.old ≡ Some folder
+        → (script : List ℕ)
+        → contents_of folder (script_in (map string_bytes words.now)) ≡ Some script
+        → IsAccepted script → (result ≡ replay_done) ⊎ IsEarly result }
 
-    ensures fault { result ≡ 6 → Rose (F.faults files.old) (F.faults files.new) ⊎ Rose (S.faults out.old) (S.faults out.new) }
-    ensures no_fault { (result ≡ 6) ⊎ NoFault (F.faults files.old) (S.faults out.old) (F.faults files.new) (S.faults out.new) }
+    // Want of memory hides neither unknown words nor a missing file, unless it was the sink's.
+    ensures words_memory { is_replay (map string_bytes words.now) ≡ false → result ≡ no_memory
+        → Rose (S.shortages out.old) (S.shortages out.new) }
+    ensures file_memory { (folder : Folder) → F.folder files.old ≡ Some folder
+        → Lacks (Some folder) (script_in (map string_bytes words.now)) → result ≡ no_memory
+        → Rose (S.shortages out.old) (S.shortages out.new) }
+
+    ensures fault { result ≡ outside_failed
+        → OneFault (F.faults files.old) (S.faults out.old) (F.faults files.new) (S.faults out.new) }
+    ensures no_fault { (result ≡ outside_failed)
+        ⊎ NoFault (F.faults files.old) (S.faults out.old) (F.faults files.new) (S.faults out.new) }
+
+    // The script is read once, and nothing is read for words that aren't understood.
+    ensures reads { F.reads files.new
+        ≡ reads_after (F.reads files.old) (map string_bytes words.now) }
     ensures folder { F.folder files.new ≡ F.folder files.old }
 {
-    match attempt(alloc, words, files, out) {
-        Ok(status) => status,
-        Err(WriteRefusal::Failed) => 6,
-        Err(WriteRefusal::Memory) => 8,
-    }
-}
-
-/// Does what the words say. A refusal of the outside ends it early.
-fn attempt<F: Files, S: Sink>(
-    alloc: Global,
-    words: &[String],
-    files: &mut F,
-    out: &mut S,
-) -> Result<u8, WriteRefusal>
-    ensures status { IfOk result (λ status. (status ≡ 0) ⊎ (status ≡ 2) ⊎ (status ≡ 3) ⊎ (status ≡ 5)) }
-    ensures done { IfOk result (λ status. (folder : Folder) → F.folder files.old ≡ Some folder → IsAsTold (outcome_of folder (map string_bytes words.now)) status (S.taken out.old) (S.taken out.new)) }
-    ensures early { OnErr result ((folder : Folder) → F.folder files.old ≡ Some folder → TakesFront (S.taken out.old) (S.taken out.new) (outcome_of folder (map string_bytes words.now)).text) }
-    ensures words_refused { IfOk result (λ status. status ≡ 2 → is_replay (map string_bytes words.now) ≡ false) }
-    ensures words_first { IfOk result (λ status. is_replay (map string_bytes words.now) ≡ false → status ≡ 2) }
-    ensures cause { RunCause (F.faults files.old) (S.faults out.old) (F.faults files.new) (S.faults out.new) result }
-    ensures folder { F.folder files.new ≡ F.folder files.old }
-{
-    let Some(name) = script_name(words) else {
-        write_all(out, b"unet: words not understood\n")?;
-        return Ok(2);
-    };
-    match files.read(name) {
-        Ok(script) => replay(alloc, script.as_slice(), out),
-        Err(ReadRefusal::Missing) => refuse_file(alloc, name, out),
-        Err(ReadRefusal::Failed) => Err(WriteRefusal::Failed),
-        Err(ReadRefusal::Memory) => Err(WriteRefusal::Memory),
-    }
-}
-
-/// Says that there is no file of that name.
-fn refuse_file<S: Sink>(alloc: Global, name: &str, out: &mut S) -> Result<u8, WriteRefusal>
-    ensures done { IfOk result (λ status. IsAsTold (file_missing name.now) status (S.taken out.old) (S.taken out.new)) }
-    ensures early { OnErr result (TakesFront (S.taken out.old) (S.taken out.new) (file_missing name.now).text) }
-    ensures cause { WriteCause (S.faults out.old) (S.faults out.new) result }
-{
-    let Ok(line) = format!(in alloc; "unet: no file {}\n", name) else {
-        return Err(WriteRefusal::Memory);
-    };
-    write_all(out, line.as_bytes())?;
-    Ok(3)
-}
-
-/// Says which line of the script is refused.
-fn refuse_script<S: Sink>(alloc: Global, number: usize, out: &mut S) -> Result<u8, WriteRefusal>
-    ensures done { IfOk result (λ status. IsAsTold (script_refused number) status (S.taken out.old) (S.taken out.new)) }
-    ensures early { OnErr result (TakesFront (S.taken out.old) (S.taken out.new) (script_refused number).text) }
-    ensures cause { WriteCause (S.faults out.old) (S.faults out.new) result }
-{
-    let Ok(line) = format!(in alloc; "unet: script refused at line {}: Unbuilt\n", number) else {
-        return Err(WriteRefusal::Memory);
-    };
-    write_all(out, line.as_bytes())?;
-    Ok(5)
-}
-
-/// Reads the script whole, and then replays it.
-fn replay<S: Sink>(alloc: Global, script: &[u8], out: &mut S) -> Result<u8, WriteRefusal>
-    ensures status { IfOk result (λ status. (status ≡ 0) ⊎ (status ≡ 5)) }
-    ensures done { IfOk result (λ status. IsAsTold (outcome_of_script script.now) status (S.taken out.old) (S.taken out.new)) }
-    ensures early { OnErr result (TakesFront (S.taken out.old) (S.taken out.new) (outcome_of_script script.now).text) }
-    ensures cause { WriteCause (S.faults out.old) (S.faults out.new) result }
-{
-    match read_script(alloc, script) {
-        Ok(lines) => {
-            play(alloc, lines.as_slice(), out)?;
-            Ok(0)
+    match script_name(words) {
+        Some(name) => {
+            let read = files.read(name);
+            answer(alloc, name, read, out)
         }
-        Err(ScriptRefusal::Unbuilt { line }) => refuse_script(alloc, line, out),
-        Err(ScriptRefusal::Memory) => Err(WriteRefusal::Memory),
+        None => refuse_words(out),
+    }
+}
+
+/// Says that the words aren't understood, which takes no memory.
+fn refuse_words<S: Sink>(out: &mut S) -> u8
+    ensures ended { Ends words_refused result (S.taken out.old) (S.taken out.new) }
+    ensures statuses { (result ≡ words_unknown) ⊎ IsEarly result }
+    ensures memory { result ≡ no_memory → Rose (S.shortages out.old) (S.shortages out.new) }
+    ensures fault { result ≡ outside_failed → Rose (S.faults out.old) (S.faults out.new) }
+    ensures no_fault { (result ≡ outside_failed) ⊎ (S.faults out.new ≡ S.faults out.old) }
+{
+    match write_all(out, b"unet: words not understood\n") {
+        Ok(()) => WORDS_UNKNOWN,
+        Err(WriteRefusal::Failed) => OUTSIDE_FAILED,
+        Err(WriteRefusal::Memory) => NO_MEMORY,
     }
 }

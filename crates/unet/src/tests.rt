@@ -1,13 +1,22 @@
 // Whole runs over folders and sinks in memory.
+use crate::answer::answer;
 use crate::run::run;
-use net_core::{Entry, MemFiles, MemSink};
+use net_core::{Blob, Entry, MemFiles, MemSink};
 use std::alloc::{AllocError, Global};
 use std::test::Fail;
 
+mod edge;
+
 const FIRST: &str = "join 1 8000\nspawn Pawn 10 -3\nset 1 hp 75\ntick\ndown 1 1\ndump 1\n";
 
-const FIRST_TRANSCRIPT: &str =
-    "joined 1\nactor 1\nsent 1 1 0180190024009d04020300e228acad4cc180800abb732350105000000020e8ffffff3780b0c480030000000040\ndown 1 1 taken\ncopies 1 1\ncopy 1 1 Pawn open x=10 y=-3 role=0 hp=75 ammo=0 team=0 aim=0\n";
+/// The transcript of `FIRST`, in the pieces that its lines write.
+const FIRST_PIECES: [&str; 5] = [
+    "joined 1\n",
+    "actor 1\n",
+    "sent 1 1 0180190024009d04020300e228acad4cc180800abb732350105000000020e8ffffff3780b0c480030000000040\n",
+    "down 1 1 taken\n",
+    "copies 1 1\ncopy 1 1 Pawn open x=10 y=-3 role=0 hp=75 ammo=0 team=0 aim=0\n",
+];
 
 const NINE_TICKS: &str =
     "join 1 8000\nspawn Pawn 0 0\ntick\ntick\ntick\ntick\ntick\ntick\ntick\ntick\ntick\ndown 1 2\ndown 1 1\ndown 1 3\ndump 1";
@@ -45,7 +54,6 @@ fn replayed(
 fn scripts_have_their_transcripts(rt: HostRuntime) -> Result<(), Fail> {
     let alloc = rt.alloc();
     for (script, status, text) in [
-        (FIRST, 0, FIRST_TRANSCRIPT),
         (NINE_TICKS, 0, NINE_TICKS_TRANSCRIPT),
         ("", 0, ""),
         ("# nothing\n\n", 0, ""),
@@ -102,21 +110,45 @@ fn words_and_files_are_looked_at_first(rt: HostRuntime) -> Result<(), Fail> {
 }
 
 #[test]
-fn faults_end_a_run_early(rt: HostRuntime) -> Result<(), Fail> {
+fn a_failing_write_leaves_the_pieces_before_it(rt: HostRuntime) -> Result<(), Fail> {
     let alloc = rt.alloc();
+    let mut taken = Vec::new(alloc);
+    let mut number = 1;
+    for piece in FIRST_PIECES {
+        let (status, written) = replayed(alloc, FIRST, &[], &[number], usize::MAX)?;
+        assert_eq!(rt; status, 6, "{number}");
+        assert_eq!(rt; written.as_slice(), taken.as_slice(), "{number}");
+        taken.extend_from_slice(piece.as_bytes())?;
+        number = number.wrapping_add(1);
+    }
+    let (status, written) = replayed(alloc, FIRST, &[], &[number], usize::MAX)?;
+    assert_eq!(rt; status, 0);
+    assert_eq!(rt; written.as_slice(), taken.as_slice());
     let (status, written) = replayed(alloc, FIRST, &[1], &[], usize::MAX)?;
     assert_eq!(rt; status, 6);
     assert!(rt; written.is_empty());
-    for failing in 1..=6 {
-        let (status, written) = replayed(alloc, FIRST, &[], &[failing], usize::MAX)?;
-        let whole = FIRST_TRANSCRIPT.as_bytes();
-        if status == 0 {
-            assert_eq!(rt; written.as_slice(), whole);
-        } else {
-            assert_eq!(rt; status, 6);
-            assert!(rt; written.len() < whole.len());
-            assert!(rt; whole.starts_with(written.as_slice()));
+    Ok(())
+}
+
+/// A script of this many bytes, in comments of 16,383 bytes and the end of a line.
+fn comments(alloc: Global, bytes: usize) -> Result<Blob, Fail> {
+    let mut script = vec![in alloc; b'#'; bytes]?;
+    for end in script.chunks_mut(16_384) {
+        if let Some(last) = end.last_mut() {
+            *last = b'\n';
         }
+    }
+    Ok(Blob::from_vec(script))
+}
+
+#[test]
+fn a_script_may_be_long(rt: HostRuntime) -> Result<(), Fail> {
+    let alloc = rt.alloc();
+    for bytes in [4_097, 16_384, 65_537, 1_000_000] {
+        let script = comments(alloc, bytes)?;
+        let mut out = MemSink::new(alloc, Vec::new(alloc));
+        assert_eq!(rt; answer(alloc, "S", Ok(script), &mut out), 0, "{bytes}");
+        assert!(rt; out.as_slice().is_empty(), "{bytes}");
     }
     Ok(())
 }

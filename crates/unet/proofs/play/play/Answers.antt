@@ -1,6 +1,6 @@
 use Rattle.std.proofs.Common.{◌∙◌}
 use Rattle.std.proofs.lemmas.Result.{err_from_is_err_and}
-use Rattle.unet.proofs.Played.{may_come, next_line, goes_on, front, front_of_line}
+use Rattle.unet.proofs.Played.{may_come, next_line, goes_on, prefix, prefix_of_line}
 use Rattle.unet.proofs.play.play.Goals as goal
 
 pub tell-requires : goal.tell-requires
@@ -11,13 +11,13 @@ tell-requires g c =
 pub returns-in_err-text-clause-err : goal.returns-in_err-text-clause-err
 returns-in_err-text-clause-err g c =
     let p = err_from_is_err_and c.from_residual.result c.from_residual.ensures.1 in
-    rw p.1 (front _ _ _ _ _ c.loop-line.invariant.played)
+    rw p.1 (prefix _ _ _ _ _ c.loop-line.invariant.played)
 
 pub returns-in_err-write_all-clause-err : goal.returns-in_err-write_all-clause-err
 returns-in_err-write_all-clause-err g c =
     let next = next_line c.args.lines.now c.loop-line.line-index c.line-item.result c.line-item.is c.loop-line-test.true in
     let p = err_from_is_err_and c.from_residual-in_err-write_all.result c.from_residual-in_err-write_all.ensures.1 in
-    rw p.1 (front_of_line _ _ _ _ _ _ _ _ (rw next at c.loop-line.invariant.played) c.in_ok-text.ensures.text (rw c.as_slice.ensures at c.in_err-write_all.ensures.err))
+    rw p.1 (prefix_of_line _ _ _ _ _ _ _ _ (rw next at c.loop-line.invariant.played) c.in_ok-text.ensures.text (rw c.as_slice.ensures at c.in_err-write_all.ensures.err))
 
 pub loop-line-preserved : goal.loop-line-preserved
 loop-line-preserved g c =
