@@ -109,21 +109,19 @@ fn the_built_in_paths_have_guids(rt: HostRuntime) -> Result<(), Fail> {
 }
 
 /// Whole files, each with the rule of the table that it breaks.
-const TOPS: [&str; 9] = [
-    " -> table: Json",
-    "null -> table: Shape",
-    "{} -> table: Shape",
-    "[] -> table: Shape",
-    "{'classes':null} -> table: Shape",
-    "{'classes':[{@}],'more':1} -> table: Shape",
-    "{'classes':[{@}] -> table: Json",
-    "{'classes':[{@}]}{} -> table: Json",
-    "{'classes':[]} -> table: Range",
-];
+const TOPS: &str = " -> table: Json
+null -> table: Shape
+{} -> table: Shape
+[] -> table: Shape
+{'classes':null} -> table: Shape
+{'classes':[{@}],'more':1} -> table: Shape
+{'classes':[{@}] -> table: Json
+{'classes':[{@}]}{} -> table: Json
+{'classes':[]} -> table: Range";
 
 #[test]
 fn a_file_without_classes_is_refused_at_the_table(rt: HostRuntime) -> Result<(), Fail> {
-    for row in TOPS {
+    for row in TOPS.lines() {
         let (text, want) = row.split_once(" -> ").ok_or("row")?;
         let mut file = String::new(rt.alloc());
         push_piece(&mut file, text, "")?;
@@ -139,99 +137,98 @@ fn a_file_without_classes_is_refused_at_the_table(rt: HostRuntime) -> Result<(),
 }
 
 /// Classes of which one breaks a rule, each with the place and the rule.
-const BAD: [&str; 44] = [
-    "1 -> class 1: Shape",
-    "{@,'more':1} -> class 1: Shape",
-    "{@,'parent':0} -> class 1: Shape",
-    "{@,'cull':1.0} -> class 1: Shape",
-    "{@,'priority':-0} -> class 1: Shape",
-    "{@,'calls':{}} -> class 1: Shape",
-    "{@,'name':'9'} -> class 1: Name",
-    "{@,'path':'A'} -> class 1: Name",
-    "{@,'path':'/a/b/c/d/e/f/g/h/i'} -> class 1: Name",
-    "{@},{@,'path':'/B'} -> class 2: Twice",
-    "{@},{@,'name':'B'} -> class 2: Twice",
-    "{@,'parent':'A'} -> class 1: Parent",
-    "{@,'parent':'B'},{@,'name':'B','path':'/B'} -> class 1: Parent",
-    "{@,'relevancy':'far'} -> class 1: BadType",
-    "{@,'cull':1} -> class 1: Range",
-    "{@,'relevancy':'near'} -> class 1: Range",
-    "{@,'relevancy':'near','cull':50001} -> class 1: Range",
-    "{@,'priority':0} -> class 1: Range",
-    "{@,'priority':256} -> class 1: Range",
-    "{@,'properties':[1]} -> class 1 property 1: Shape",
-    "{@,'properties':[{#,'more':1}]} -> class 1 property 1: Shape",
-    "{@,'properties':[{#,'init':1e2}]} -> class 1 property 1: Shape",
-    "{@,'properties':[{#,'name':'_p'}]} -> class 1 property 1: Name",
-    "{@,'properties':[{#},{#}]} -> class 1 property 2: Twice",
-    "{@,'properties':[{#,'name':'x'}]} -> class 1 property 1: Twice",
-    "{@,'properties':[{#,'name':'y'}]} -> class 1 property 1: Twice",
-    "{@,'properties':[{#,'name':'role'}]} -> class 1 property 1: Twice",
-    "{@,'properties':[{#}]},{@,'name':'B','path':'/B','parent':'A','properties':[{#}]} -> class 2 property 1: Twice",
-    "{@,'properties':[{#,'type':'u16'}]} -> class 1 property 1: BadType",
-    "{@,'properties':[{#,'type':'bytes:1'}]} -> class 1 property 1: BadType",
-    "{@,'properties':[{#,'cond':'all'}]} -> class 1 property 1: BadType",
-    "{@,'properties':[{#,'type':'enum:1'}]} -> class 1 property 1: Range",
-    "{@,'properties':[{#,'init':256}]} -> class 1 property 1: Range",
-    "{@,'properties':[{#,'type':'enum:4','init':4}]} -> class 1 property 1: Range",
-    "{@,'calls':[1]} -> class 1 call 1: Shape",
-    "{@,'calls':[{$,'reliable':1}]} -> class 1 call 1: Shape",
-    "{@,'calls':[{$,'args':[1]}]} -> class 1 call 1: Shape",
-    "{@,'calls':[{$,'name':'f-'}]} -> class 1 call 1: Name",
-    "{@,'calls':[{$},{$}]} -> class 1 call 2: Twice",
-    "{@,'calls':[{$}]},{@,'name':'B','path':'/B','parent':'A','calls':[{$}]} -> class 2 call 1: Twice",
-    "{@,'calls':[{$,'kind':'peer'}]} -> class 1 call 1: BadType",
-    "{@,'calls':[{$,'args':['u8','u16']}]} -> class 1 call 1: BadType",
-    "{@,'calls':[{$,'args':['bytes:0']}]} -> class 1 call 1: Range",
-    "{@,'calls':[{$,'args':['bytes:862'],'reliable':false}]} -> class 1 call 1: TooBig",
-];
+const BAD: &str = "1 -> class 1: Shape
+{@,'more':1} -> class 1: Shape
+{@,'parent':0} -> class 1: Shape
+{@,'cull':1.0} -> class 1: Shape
+{@,'priority':-0} -> class 1: Shape
+{@,'calls':{}} -> class 1: Shape
+{@,'name':'9'} -> class 1: Name
+{@,'path':'A'} -> class 1: Name
+{@,'path':'/a/b/c/d/e/f/g/h/i'} -> class 1: Name
+{@},{@,'path':'/B'} -> class 2: Twice
+{@},{@,'name':'B'} -> class 2: Twice
+{@,'parent':'A'} -> class 1: Parent
+{@,'parent':'B'},{@,'name':'B','path':'/B'} -> class 1: Parent
+{@,'relevancy':'far'} -> class 1: BadType
+{@,'cull':1} -> class 1: Range
+{@,'relevancy':'near'} -> class 1: Range
+{@,'relevancy':'near','cull':50001} -> class 1: Range
+{@,'priority':0} -> class 1: Range
+{@,'priority':256} -> class 1: Range
+{@,'properties':[1]} -> class 1 property 1: Shape
+{@,'properties':[{#,'more':1}]} -> class 1 property 1: Shape
+{@,'properties':[{#,'init':1e2}]} -> class 1 property 1: Shape
+{@,'properties':[{#,'name':'_p'}]} -> class 1 property 1: Name
+{@,'properties':[{#},{#}]} -> class 1 property 2: Twice
+{@,'properties':[{#,'name':'x'}]} -> class 1 property 1: Twice
+{@,'properties':[{#,'name':'y'}]} -> class 1 property 1: Twice
+{@,'properties':[{#,'name':'role'}]} -> class 1 property 1: Twice
+{@,'properties':[{#}]},{@,'name':'B','path':'/B','parent':'A','properties':[{#}]} -> class 2 property 1: Twice
+{@,'properties':[{#,'type':'u16'}]} -> class 1 property 1: BadType
+{@,'properties':[{#,'type':'bytes:1'}]} -> class 1 property 1: BadType
+{@,'properties':[{#,'cond':'all'}]} -> class 1 property 1: BadType
+{@,'properties':[{#,'type':'enum:1'}]} -> class 1 property 1: Range
+{@,'properties':[{#,'init':256}]} -> class 1 property 1: Range
+{@,'properties':[{#,'type':'enum:4','init':4}]} -> class 1 property 1: Range
+{@,'calls':[1]} -> class 1 call 1: Shape
+{@,'calls':[{$,'reliable':1}]} -> class 1 call 1: Shape
+{@,'calls':[{$,'args':[1]}]} -> class 1 call 1: Shape
+{@,'calls':[{$,'name':'f-'}]} -> class 1 call 1: Name
+{@,'calls':[{$},{$}]} -> class 1 call 2: Twice
+{@,'calls':[{$}]},{@,'name':'B','path':'/B','parent':'A','calls':[{$}]} -> class 2 call 1: Twice
+{@,'calls':[{$,'kind':'peer'}]} -> class 1 call 1: BadType
+{@,'calls':[{$,'args':['u8','u16']}]} -> class 1 call 1: BadType
+{@,'calls':[{$,'args':['bytes:0']}]} -> class 1 call 1: Range
+{@,'calls':[{$,'args':['bytes:862'],'reliable':false}]} -> class 1 call 1: TooBig";
 
 /// Classes that break two rules, each with the first of them: classes are looked at in the file's
 /// order, but the keys of an object in one order of their own.
-const BAD_TWICE: [&str; 22] = [
-    "{@,'name':'9','more':1} -> class 1: Shape",
-    "{@},{@,'path':''} -> class 2: Twice",
-    "{@},{@,'name':'B','parent':'Z'} -> class 2: Twice",
-    "{@,'path':'','parent':'Z'} -> class 1: Name",
-    "{@,'parent':'Z','relevancy':'far'} -> class 1: Parent",
-    "{@,'relevancy':'far','cull':1} -> class 1: BadType",
-    "{@,'cull':1,'properties':[1]} -> class 1: Range",
-    "{@,'priority':0,'properties':[1]} -> class 1: Range",
-    "{@,'properties':[{#},{#}],'calls':[1]} -> class 1 property 2: Twice",
-    "{@,'properties':[{#,'init':-1},1]} -> class 1 property 1: Range",
-    "{@,'calls':[1]},1 -> class 1 call 1: Shape",
-    "{'calls':[1],'properties':[1],'priority':1,'cull':0,'relevancy':'always','parent':null,'path':'/A','name':'A'} -> class 1 property 1: Shape",
-    "{@,'properties':[{'init':-1,'cond':'','type':'u8','name':'p'}]} -> class 1 property 1: BadType",
-    "{@,'properties':[{#,'name':'x','init':1.0}]} -> class 1 property 1: Shape",
-    "{@,'properties':[{#,'name':'x','type':''}]} -> class 1 property 1: Twice",
-    "{@,'properties':[{#,'name':'x','init':-1}]} -> class 1 property 1: Twice",
-    "{@,'properties':[{#,'type':'enum:1','cond':''}]} -> class 1 property 1: Range",
-    "{@,'calls':[{$,'name':'','args':[1]}]} -> class 1 call 1: Shape",
-    "{@,'calls':[{$},{$,'kind':''}]} -> class 1 call 2: Twice",
-    "{@,'calls':[{$,'kind':'','args':['bytes:0']}]} -> class 1 call 1: BadType",
-    "{@,'calls':[{$,'args':['enum:1','zz']}]} -> class 1 call 1: Range",
-    "{@,'calls':[{$,'args':['zz','enum:1']}]} -> class 1 call 1: BadType",
-];
+const BAD_TWICE: &str = "{@,'name':'9','more':1} -> class 1: Shape
+{@},{@,'path':''} -> class 2: Twice
+{@},{@,'name':'B','parent':'Z'} -> class 2: Twice
+{@,'path':'','parent':'Z'} -> class 1: Name
+{@,'parent':'Z','relevancy':'far'} -> class 1: Parent
+{@,'relevancy':'far','cull':1} -> class 1: BadType
+{@,'cull':1,'properties':[1]} -> class 1: Range
+{@,'priority':0,'properties':[1]} -> class 1: Range
+{@,'properties':[{#},{#}],'calls':[1]} -> class 1 property 2: Twice
+{@,'properties':[{#,'init':-1},1]} -> class 1 property 1: Range
+{@,'calls':[1]},1 -> class 1 call 1: Shape
+{'calls':[1],'properties':[1],'priority':1,'cull':0,'relevancy':'always','parent':null,'path':'/A','name':'A'} -> class 1 property 1: Shape
+{@,'properties':[{'init':-1,'cond':'','type':'u8','name':'p'}]} -> class 1 property 1: BadType
+{@,'properties':[{#,'name':'x','init':1.0}]} -> class 1 property 1: Shape
+{@,'properties':[{#,'name':'x','type':''}]} -> class 1 property 1: Twice
+{@,'properties':[{#,'name':'x','init':-1}]} -> class 1 property 1: Twice
+{@,'properties':[{#,'type':'enum:1','cond':''}]} -> class 1 property 1: Range
+{@,'calls':[{$,'name':'','args':[1]}]} -> class 1 call 1: Shape
+{@,'calls':[{$},{$,'kind':''}]} -> class 1 call 2: Twice
+{@,'calls':[{$,'kind':'','args':['bytes:0']}]} -> class 1 call 1: BadType
+{@,'calls':[{$,'args':['enum:1','zz']}]} -> class 1 call 1: Range
+{@,'calls':[{$,'args':['zz','enum:1']}]} -> class 1 call 1: BadType";
+
+/// The first row whose classes aren't answered as it says.
+fn wrong_row(alloc: Global, rows: &str) -> Result<Option<&str>, Fail> {
+    for row in rows.lines() {
+        let (classes, want) = row.split_once(" -> ").ok_or("row")?;
+        let file = file_of(alloc, [classes, "", ""], 0)?;
+        let got = outcome(alloc, file.as_bytes())?;
+        if got.as_str() != want {
+            return Ok(Some(row));
+        }
+    }
+    Ok(None)
+}
 
 #[test]
 fn a_broken_rule_is_told_with_its_place(rt: HostRuntime) -> Result<(), Fail> {
-    for row in BAD {
-        let (classes, want) = row.split_once(" -> ").ok_or("row")?;
-        let file = file_of(rt.alloc(), [classes, "", ""], 0)?;
-        let got = outcome(rt.alloc(), file.as_bytes())?;
-        assert_eq!(rt; got.as_str(), want, "{row}");
-    }
+    assert_eq!(rt; wrong_row(rt.alloc(), BAD)?, None);
     Ok(())
 }
 
 #[test]
 fn of_two_broken_rules_the_first_is_told(rt: HostRuntime) -> Result<(), Fail> {
-    for row in BAD_TWICE {
-        let (classes, want) = row.split_once(" -> ").ok_or("row")?;
-        let file = file_of(rt.alloc(), [classes, "", ""], 0)?;
-        let got = outcome(rt.alloc(), file.as_bytes())?;
-        assert_eq!(rt; got.as_str(), want, "{row}");
-    }
+    assert_eq!(rt; wrong_row(rt.alloc(), BAD_TWICE)?, None);
     Ok(())
 }
 
