@@ -3,7 +3,8 @@ use Rattle.std.proofs.Common.{◌≡◌, ℕ, ◌+◌, ◌≤◌, List, [], ◌�
 use Rattle.std.specs.List.{count_by}
 use Rattle.std.proofs.lemmas.Bool.{false≢true, eqb-true}
 use Rattle.std.proofs.lemmas.List.Sums.{sum_by-cons, sum_by-append}
-use Rattle.payload_laws.proofs.Tests.{left_of, right_of, both, same_is}
+use Rattle.std.proofs.lemmas.Bool.{eq-eqb as same_is}
+use Rattle.protocol_laws.proofs.Booleans.{left_of, right_of, both}
 use Rattle.protocol_model.specs.Value.{Table, Arg, Scalar, Octets}
 use Rattle.connection_model.specs.Handed.{Asked}
 use Rattle.replication_model.specs.Story.{Player}

@@ -12,7 +12,7 @@ use Rattle.connection_model.specs.Verdict.{lacks_copy, delivery_of, payload_resu
 use Rattle.connection_model.specs.Windows.{part_fault, joined_bits}
 use Rattle.connection_laws.specs.Deeds.{EachDeed}
 use Rattle.payload_laws.proofs.Handing.{then_ends}
-use Rattle.payload_laws.proofs.Tests.{not_below_is}
+use Rattle.std.proofs.lemmas.Bool.{le-ltb as not_below_is}
 use Rattle.headline_laws.specs.Fits.{DeedFits, PastFits}
 
 -- no rule of joining is broken by one part
