@@ -10,6 +10,8 @@ use Rattle.std.proofs.lemmas.List.FromFn.{length-map-range_with_len, get_or-map-
 use Rattle.std.proofs.lemmas.Nat.Bits.{bit_at-zero, bit_at_lowest, bit_at-suc, bit_at-trailing_zeros, same_from_bits_below}
 use Rattle.std.proofs.Math.Nat.{pow-suc}
 use Rattle.protocol_model.specs.Bits.{digits, number_of, fixed_bits}
+use Rattle.protocol_laws.proofs.Digits.{length-digits}
+use Rattle.protocol_laws.proofs.Reading.{number_of_below}
 use Rattle.ack_book.specs.History.{bit_in}
 use Rattle.ack_book.proofs.Words.{bit_in_word}
 
@@ -57,11 +59,6 @@ first_bit words w within some fits zeros =
 
 -- ---- the list of bits
 
-length-digits : (k n : ℕ) → length (digits k n) ≡ k
-unfolding digits
-length-digits zero n = refl
-length-digits (suc k) n = ap suc (length-digits k (n / 2))
-
 digit_at : (k n i : ℕ) → i < k → slice_index_or (digits k n) i false ≡ (bit_at n i == 1)
 unfolding digits
 digit_at zero n i h = absurd (omega arith)
@@ -107,11 +104,6 @@ bit_taken_first words count i zeros =
 
 -- ---- the number that bits spell
 
-number_below : (bits : List Bool) → number_of bits < 2 ^ length bits
-number_below [] = omega arith
-number_below (true ∷ bits) = omega (arith, number_below bits, pow-suc 2 (length bits))
-number_below (false ∷ bits) = omega (arith, number_below bits, pow-suc 2 (length bits))
-
 bit_of_number : (bits : List Bool) (i : ℕ) → bit_at (number_of bits) i ≡ (if slice_index_or bits i false then 1 else 0)
 bit_of_number [] i = bit_at-zero i
 bit_of_number (true ∷ bits) zero = bit_at_lowest (1 + 2 * number_of bits) ∙ omega arith
@@ -128,7 +120,7 @@ pub spelled_by : (k x : ℕ) (f : ℕ → Bool) → x < 2 ^ k → ((i : ℕ) →
     → x ≡ number_of (map f (range_with_len 0 k))
 spelled_by k x f fits bits =
     let below : number_of (map f (range_with_len 0 k)) < 2 ^ k =
-    subst (λ (n : ℕ). number_of (map f (range_with_len 0 k)) < 2 ^ n) (length-map-range_with_len f 0 k) (number_below (map f (range_with_len 0 k))) in
+    subst (λ (n : ℕ). number_of (map f (range_with_len 0 k)) < 2 ^ n) (length-map-range_with_len f 0 k) (number_of_below (map f (range_with_len 0 k))) in
     same_from_bits_below k x (number_of (map f (range_with_len 0 k))) fits below
     (λ i h. bits i h ∙ ap (λ (b : Bool). if b then 1 else 0) (sym (get_or-map-range_with_len f 0 k i i false h (omega arith)))
     ∙ sym (bit_of_number (map f (range_with_len 0 k)) i))

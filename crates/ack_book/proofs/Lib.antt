@@ -1,6 +1,6 @@
-pub mod Steps
-pub mod Words
-pub mod Histories
+mod Steps
+mod Words
+mod Histories
 pub mod Names
 pub mod KeepsSteps
-pub mod HeadSteps
+mod HeadSteps
