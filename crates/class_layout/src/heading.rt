@@ -35,7 +35,8 @@ pub(crate) struct Heading<'a> {
 fn parent_of(classes: &ClassList, name: Option<&str>) -> Result<Option<u16>, TableWhy>
     requires { length classes.now ≤ class_limit }
     ensures { (segments : List SegmentSpec) → result
-        ≡ Rules.parent_of (map (entry_of segments) classes.now) (option_map (λ n. n.now) name.entry) }
+        ≡ Rules.parent_of (map (entry_of segments) classes.now)
+        (option_map (λ n. n.now) name.entry) }
 {
     let Some(name) = name else {
         return Ok(None);

@@ -46,7 +46,8 @@ fn any_path(classes: &ClassList, segments: &SegmentList, names: &TextList) -> bo
 #[tactic(auto, using(crate::proofs::Finding::class_place, crate::proofs::Finding::found_within))]
 pub(crate) fn find(classes: &[Class], name: &str) -> Option<u16>
     requires { length classes.now ≤ class_limit }
-    ensures { (segments : List SegmentSpec) → result ≡ place_of (map (entry_of segments) classes.now) name.now }
+    ensures { (segments : List SegmentSpec)
+        → result ≡ place_of (map (entry_of segments) classes.now) name.now }
 {
     narrow(position(classes, name))
 }

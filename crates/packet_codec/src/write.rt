@@ -201,7 +201,8 @@ fn put_payload(w: &mut BitWriter, payload: BitSlice)
     requires size { length (slice_bits payload) < bunch_bits_limit }
     requires room { length (slice_bits payload) + 45 ≤ w.old.spare }
     ensures { Appends w.old w.new
-        (int_bits bunch_bits_limit (length (slice_bits payload.entry)) ++ slice_bits payload.entry) }
+        (int_bits bunch_bits_limit (length (slice_bits payload.entry))
+        ++ slice_bits payload.entry) }
 {
     w.put_int(payload.len() as u32, BUNCH_BITS_LIMIT);
     w.put_slice(payload);

@@ -2,8 +2,8 @@
 // one has, and why any other is refused.
 //
 // It has definitions and laws above them, and no code but how a place is shown. It stands on
-// `protocol_model` for what a class is, on `script_model` for how numbers are spelled in decimal, and
-// on `serde_json`'s own meaning of the bytes for what is JSON.
+// `protocol_model` for what a class is, on `script_model` for how numbers are spelled in decimal,
+// and on `serde_json`'s own meaning of the bytes for what is JSON.
 //
 //     {"classes":[{"name":"Pawn", .., "properties":[{..}], "calls":[{..}]}]}
 //      table       class 1            class 1 property 1   class 1 call 1

@@ -16,9 +16,9 @@ use std::alloc::Global;
 
 /// Does what the words say, and answers the status: one of those of `specs/Statuses`.
 ///
-/// Words that aren't understood, a missing file and a script with a refused line write one line that
-/// says so, and nothing else. Where a read or a write failed, or there was no memory, a prefix of
-/// what would have been written was.
+/// Words that aren't understood, a missing file and a script with a refused line write one line
+/// that says so, and nothing else. Where a read or a write failed, or there was no memory, a prefix
+/// of what would have been written was.
 pub fn run<F: Files, S: Sink>(alloc: Global, words: &[String], files: &mut F, out: &mut S) -> u8
     ensures statuses { IsStatus result }
 
@@ -39,7 +39,8 @@ pub fn run<F: Files, S: Sink>(alloc: Global, words: &[String], files: &mut F, ou
         × TakesTranscript script (S.taken out.old) (S.taken out.new) }
 
     // When each refusal comes, both ways.
-    ensures words_refused { result ≡ words_unknown → is_replay (map string_bytes words.now) ≡ false }
+    ensures words_refused { result ≡ words_unknown
+        → is_replay (map string_bytes words.now) ≡ false }
     ensures words_first { is_replay (map string_bytes words.now) ≡ false
         → (result ≡ words_unknown) ⊎ IsEarly result }
     ensures no_file { result ≡ no_file
