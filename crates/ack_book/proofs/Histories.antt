@@ -8,7 +8,6 @@ use Rattle.std.proofs.lemmas.Bool.Decides.{nat_tests}
 use Rattle.std.proofs.lemmas.List.{get_or-set_same, get_or-set_other, get_or-replicate, get_or_past, length-replicate, get_or-take, get_or-drop, length-take, length-drop, ext_get_or, get_or_append_left, get_or-append_right}
 use Rattle.std.proofs.lemmas.List.FromFn.{length-map-range_with_len, get_or-map-range_with_len}
 use Rattle.std.proofs.lemmas.Nat.Bits.{bit_at-zero, bit_at_lowest, bit_at-suc, bit_at-trailing_zeros, same_from_bits_below}
-use Rattle.std.proofs.Math.Nat.{pow-suc}
 use Rattle.protocol_model.specs.Bits.{digits, number_of, fixed_bits}
 use Rattle.protocol_laws.proofs.Digits.{length-digits}
 use Rattle.protocol_laws.proofs.Reading.{number_of_below}
