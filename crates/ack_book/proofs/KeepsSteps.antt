@@ -12,12 +12,27 @@ use Rattle.std.specs.List.{filter_map, cons_option}
 use Rattle.std.proofs.lemmas.List.{get_or-replicate}
 use Rattle.std.proofs.lemmas.Nat.{mod_below}
 use Rattle.std.proofs.lemmas.Nat.Bits.{bit_at-zero}
-use Rattle.ack_book.specs.Book.{Book, fates_kept}
+use Rattle.ack_book.specs.Book.{Book, Room, fates_kept}
 use Rattle.ack_book.specs.History.{bit_in}
 use Rattle.ack_book.specs.Keeps.{Keeps}
 use Rattle.protocol_model.specs.Limits.{unresolved_limit}
 use Rattle.protocol_laws.proofs.Greatest.{greatest_of-cons, among_above}
 use Rattle.ack_book.proofs.Steps.{if_other, told_at, bit_taken, owed_more, at_place, moves_one, none_above}
+
+-- what a book keeps doesn't depend on the memory that it holds
+pub held_keeps : (book : Book) (v : Version) (past : Past) (room : Room) → Keeps book v past → Keeps (record book { room = room }) v past
+held_keeps book v past room h =
+    record {
+      version = h.version;
+      sent = h.sent;
+      high = h.high;
+      top = h.top;
+      base = h.base;
+      owed = h.owed;
+      history = h.history;
+      fates = h.fates;
+      told = h.told;
+    }
 
 -- in version One what is owed depends on what was taken since the last tick alone
 pub owed_like : (v : Version) (past later : Past) → taken_of (deeds_since_tick past) ≡ taken_of (deeds_since_tick later)
@@ -183,9 +198,9 @@ ignored_keeps book v past m entries handed n h low =
     (ap (λ (o : Option ℕ). cons_option o [] ++ moved_of before) (none_above (high_of before) _ low'))
 
 -- nothing was done yet
-pub new_keeps : (v : Version) (owed : List ℕ) (arrived : List Bool) (told : List ℕ) → owed ≡ [] → arrived ≡ replicate fates_kept false
-    → Keeps (record { version = v; last_sent = 0; high = 0; top = 0; base = 0; owed = owed; history = replicate 8 0; arrived = arrived; told = told }) v []
-new_keeps v owed arrived told none all_false =
+pub new_keeps : (v : Version) (owed : List ℕ) (arrived : List Bool) (told : List ℕ) (room : Room) → owed ≡ [] → arrived ≡ replicate fates_kept false
+    → Keeps (record { version = v; last_sent = 0; high = 0; top = 0; base = 0; owed = owed; history = replicate 8 0; arrived = arrived; told = told; room = room }) v []
+new_keeps v owed arrived told room none all_false =
     record {
       version = refl;
       sent = refl;

@@ -8,9 +8,16 @@ use Rattle.protocol_model.specs.declared.Version.{Version}
 abbrev pub fates_kept : ℕ
 fates_kept = packet_modulus / 2
 
+-- the memory that a book holds: how many items each of its blocks has room for
+pub record Room : Type 0 where
+  pub owed : ℕ
+  pub arrived : ℕ
+  pub told : ℕ
+
 -- the last packet sent, the greatest moved number, the greatest number taken, the one told in the
 -- greatest arrived packet, the numbers owed, the words of history, which of the last packets
--- arrived, and the greatest number taken that each unresolved packet told; the last two are rings
+-- arrived, the greatest number taken that each unresolved packet told, and the memory held; which
+-- arrived and what was told are rings
 pub record Book : Type 0 where
   pub version : Version
   pub last_sent : ℕ
@@ -21,3 +28,4 @@ pub record Book : Type 0 where
   pub history : List ℕ
   pub arrived : List Bool
   pub told : List ℕ
+  pub room : Room

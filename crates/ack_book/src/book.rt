@@ -40,7 +40,7 @@ pub struct AckBook {
 }
 
 impl Model for AckBook {
-    ghost use Rattle.std.specs.Prelude.{◌≡◌, ◌+◌, ◌≤◌, ◌<◌, ◌^◌, vec_len};
+    ghost use Rattle.std.specs.Prelude.{◌≡◌, ◌+◌, ◌≤◌, ◌<◌, ◌^◌, vec_len, vec_capacity};
     ghost use Rattle.protocol_model.specs.Limits.{owed_limit, unresolved_limit};
     ghost use Rattle.ack_book.specs.Book.{Book, fates_kept};
 
@@ -56,6 +56,11 @@ impl Model for AckBook {
       history = b.history;
       arrived = b.arrived.items;
       told = b.told.items;
+      room = record {
+        owed = b.owed.capacity;
+        arrived = vec_capacity b.arrived;
+        told = vec_capacity b.told;
+      };
     } };
 
     ghost invariant = { λ b. (vec_len b.arrived ≡ fates_kept) × (vec_len b.told ≡ unresolved_limit)
@@ -142,6 +147,7 @@ impl AckBook {
         ensures keeps { (version : Version) (past : Past) (t : ℕ) (items : List Item)
             → Keeps self.old version past
             → Keeps self.new version (Deed.Sent result t items ∷ past) }
+        ensures memory { self.new.room ≡ self.old.room }
     {
         let number = self.last_sent + 1;
         self.told[(number % UNRESOLVED_LIMIT) as usize] = self.top;
@@ -168,6 +174,7 @@ impl AckBook {
             → Keeps self.old version past
             → Keeps self.new version (Deed.Took number [] [] ∷ past)) }
         ensures unchanged { OnErr result (self.new ≡ self.old) }
+        ensures memory { self.new.room ≡ self.old.room }
     {
         let number = near(n as u32, self.top as i64, PACKET_MODULUS);
         if number <= self.top as i64 {
@@ -196,6 +203,7 @@ impl AckBook {
             → Keeps self.old version (Deed.Took m entries handed ∷ past)
             → Keeps self.new version (Deed.Took m (Entry.Acked n ∷ entries) handed ∷ past)) }
         ensures unchanged { OnErr result (self.new ≡ self.old) }
+        ensures memory { self.new.room ≡ self.old.room }
     {
         let acked = near(n as u32, self.high as i64, PACKET_MODULUS);
         if acked > self.last_sent as i64 {
@@ -243,8 +251,9 @@ impl AckBook {
 
     /// Owes nothing from now on, as at the beginning of a tick.
     pub fn clear_owed(&mut self)
-        ensures { (version : Version) (past : Past) (t : ℕ) (sight : List Seen)
+        ensures keeps { (version : Version) (past : Past) (t : ℕ) (sight : List Seen)
             → Keeps self.old version past → Keeps self.new version (Deed.Ticked t sight ∷ past) }
+        ensures memory { self.new.room ≡ self.old.room }
     {
         self.owed.clear();
     }
@@ -294,6 +303,7 @@ impl AckBook {
             → Keeps self.new version
             (Deed.Took m (Entry.Told (head_told h) ∷ entries) handed ∷ past)) }
         ensures unchanged { OnErr result (self.new ≡ self.old) }
+        ensures memory { self.new.room ≡ self.old.room }
     {
         let top = near(h.top as u32, self.high as i64, PACKET_MODULUS);
         let Some(first) = first_set(&h.words) else {

@@ -21,6 +21,7 @@ pub fn note_number(
         → owed.new ≡ buffer (keep_last owed.old.capacity
         (owed.old.items ++ number ∷ [])) owed.old.capacity }
     ensures two { version ≡ Version.Two → owed.new ≡ owed.old }
+    ensures capacity { owed.new.capacity ≡ owed.old.capacity }
     ensures history { version ≡ Version.Two → (i : ℕ) → i < 256 → bit_in history.new i
         ≡ (if i == 0 then 1 else (if nat_lt i by then 0 else bit_in history.old (i - by))) }
 {

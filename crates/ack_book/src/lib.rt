@@ -7,8 +7,8 @@
 //
 // It stands on `connection_model` for what a fate is, over the whole list of what the end did, and
 // on `circular_buffer` for the numbers owed. It promises that each answer is the one of that list,
-// though it keeps rings that forget, and that no call after `new` takes memory. It knows no bytes,
-// no bunches and no clock.
+// though it keeps rings that forget, and that after every call it holds as much memory as before.
+// It knows no bytes, no bunches and no clock.
 //
 //     sent:   1 2 3 4 5 6 7 8 9
 //             + - + + ^ . . . ^      + arrived, - lost, . open

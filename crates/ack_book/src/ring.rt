@@ -1,5 +1,5 @@
 // A ring that tells of each of the last packets whether it arrived.
-ghost use Rattle.std.specs.Prelude.{◌≡◌, ◌+◌, ◌-◌, ◌%◌, ◌^◌, ◌<◌, ◌≤◌, ◌==◌, ℕ, length, true, false, slice_index_or};
+ghost use Rattle.std.specs.Prelude.{◌≡◌, ◌+◌, ◌-◌, ◌%◌, ◌^◌, ◌<◌, ◌≤◌, ◌==◌, ℕ, length, vec_capacity, true, false, slice_index_or};
 ghost use Rattle.ack_book.specs.Book.{fates_kept};
 ghost use Rattle.ack_book.specs.History.{bit_in};
 
@@ -11,6 +11,7 @@ pub fn mark_arrived(ring: &mut Vec<bool>, from: u64, to: u64)
     requires below { from < to }
     requires len { length ring.old.items ≡ fates_kept }
     ensures len { length ring.new.items ≡ fates_kept }
+    ensures capacity { vec_capacity ring.new ≡ vec_capacity ring.old }
     ensures arrived { slice_index_or ring.new.items (to % fates_kept) false ≡ true }
     ensures lost { (n : ℕ) → from < n → n < to → to < n + fates_kept
         → slice_index_or ring.new.items (n % fates_kept) false ≡ false }
@@ -32,6 +33,7 @@ pub fn mark_named(ring: &mut Vec<bool>, words: &[u32; 8], first: u64, from: u64,
     requires first { first < 256 }
     requires len { length ring.old.items ≡ fates_kept }
     ensures len { length ring.new.items ≡ fates_kept }
+    ensures capacity { vec_capacity ring.new ≡ vec_capacity ring.old }
     ensures named { (n : ℕ) → from < n → n ≤ to → to < n + fates_kept
         → slice_index_or ring.new.items (n % fates_kept) false
         ≡ (bit_in words.now (first + (to - n)) == 1) }

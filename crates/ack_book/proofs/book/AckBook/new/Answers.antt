@@ -5,5 +5,5 @@ use Rattle.ack_book.proofs.book.AckBook.new.Goals as goal
 
 pub returns : goal.returns
 returns c =
-    new_keeps c.args.version c.in_ok-owed.owed.items c.in_ok-arrived.arrived.items c.in_ok-told.told.items
+    new_keeps c.args.version c.in_ok-owed.owed.items c.in_ok-arrived.arrived.items c.in_ok-told.told.items _
     (ap (λ (b : Buffer ℕ). b.items) c.in_ok-owed.ensures) (c.in_ok-arrived.ensures.items_if_clones_equal (λ y h. h))

@@ -10,6 +10,7 @@ use Rattle.bit_io.specs.HeadOf.{head_of as head_told}
 use Rattle.ack_book.specs.Book.{Book}
 use Rattle.ack_book.specs.Keeps.{Keeps}
 use Rattle.ack_book.specs.contracts.book.AckBook.{the_view}
+use Rattle.ack_book.proofs.KeepsSteps.{held_keeps}
 use Rattle.ack_book.proofs.Names.{named_first, near_low}
 use Rattle.ack_book.proofs.HeadSteps.{names_nothing, names_sent, names_one_unsent, silent_keeps, stale_keeps, told_keeps, told_bits, none_of, first_of}
 use Rattle.ack_book.proofs.book.AckBook.take_head.Goals as goal
@@ -100,8 +101,9 @@ returns-clause-keeps c = λ v past m entries handed h.
     let low : negsuc 8191 ≤ℤ c.near-top.result = rw top (near_low c.args.h.top c.self.inside.high) in
     let reached : c.near-top.result ≡ pos (to + c.in-Some.first) = omega (arith, ints) in
     let marks = c.mark_named.ensures in
-    told_keeps (the_view c.self.inside) v past m entries handed (head_told c.args.h) c.in-Some.first to c.index.result.now c.mark_named.new.ring.items inside first
+    held_keeps _ v _ _
+    (told_keeps (the_view c.self.inside) v past m entries handed (head_told c.args.h) c.in-Some.first to c.index.result.now c.mark_named.new.ring.items inside first
     (omega (arith, ints)) (omega (arith, ints)) (sym top ∙ reached)
     (get_or_read_under c.self.inside.told.items _ c.self.inside.told.len _ 0 c.index.ensures (omega arith) (omega (arith, c.self.inside.told.ok.0)))
     (λ n above low close. marks.named n above low close ∙ sym (told_bits c.args.h (c.in-Some.first + (to - n)) c.requires.whole))
-    marks.kept
+    marks.kept)
