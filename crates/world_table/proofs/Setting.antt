@@ -7,7 +7,7 @@ use Rattle.std.proofs.lemmas.Option.{same_Some, none-some}
 use Rattle.protocol_model.specs.declared.Kind.{Kind}
 use Rattle.protocol_model.specs.Value.{Class, Prop}
 use Rattle.protocol_model.specs.World.{Edits, Set, Switch, class_at, has_switch, is_custom}
-use Rattle.class_layout.specs.Tables.{Layout, table_in}
+use Rattle.class_layout.specs.Tables.{Layout, IsLayout, table_in}
 use Rattle.value_codec.specs.Values.{whole_of, value_fits}
 use Rattle.value_codec.specs.declared.value.Value.{Value}
 use Rattle.world_table.specs.declared.actor.Actor.{Actor}
@@ -51,6 +51,49 @@ some_prop : (o : Option Prop) (kind : Kind) → option_map (λ (p : Prop). p.kin
     → (p : Prop) × (o ≡ Some p) × (p.kind ≡ kind)
 some_prop None kind h = absurd (cc)
 some_prop (Some p) kind h = (p, refl, same_Some p.kind kind h)
+
+-- ---- the value that is in a place
+
+-- a cell with the kind of its handle, which its value fits
+pub record KindHeld (w : Kept) (r : Actor) (h n : ℕ) : Type 0 where
+  pub kind : Kind
+  pub cell : Cell
+  pub is : slice_get w.cells n ≡ Some cell
+  pub some : option_map (λ (p : Prop). p.kind) (settable_at (class_at (table_in w.layout) r.look.class) h) ≡ Some kind
+  pub fits : value_fits kind cell.value ≡ true
+
+held : (layout : Layout) (set : Option ℤ) (switch : Bool) (p : Prop) (o : Option Cell) → IsLayout layout
+    → HasCell layout set switch p o
+    → (cell : Cell) × (o ≡ Some cell) × (value_fits p.kind cell.value ≡ true)
+held layout set switch p None is h = absurd h
+held layout set switch p (Some cell) is h = (cell, refl, h.fits is)
+
+some_own : (o : Option Prop) (m n : ℕ) → option_map (λ (p : Prop). m) o ≡ Some n → (p : Prop) × (o ≡ Some p)
+some_own None m n h = absurd (cc)
+some_own (Some p) m n h = (p, refl)
+
+pub kind_held : (w : Kept) (edits : Edits) (a h n : ℕ) (r : Actor) → Stands w edits → IsLayout w.layout
+    → actor_at w.actors a ≡ Some r → place_in r h ≡ Some n
+    → KindHeld w r h n
+kind_held w edits a h n r stands layout is place =
+    let told : History = history_of edits a in
+    let right = actor_of w edits a r stands is in
+    let class : Class = class_at (table_in w.layout) right.spawned.class in
+    let at = at_place r h n place in
+    let four : h ≡ suc (suc (suc (suc at.k))) = omega (arith, at.handle) in
+    let prop = some_own (slice_get class.props at.k) (r.first + at.k) n
+    (sym (place_is r class.props at.k right.past) ∙ ap (place_in r) (sym four) ∙ place) in
+    let cell = held w.layout (told.set (4 + at.k)) (told.on (4 + at.k)) prop.0 (slice_get w.cells (r.first + at.k))
+    layout (right.holds at.k prop.0 prop.1) in
+    record {
+      kind = (prop.0).kind;
+      cell = cell.0;
+      is = ap (slice_get w.cells) at.place ∙ cell.1;
+      some = ap (λ (l : Look). option_map (λ (p : Prop). p.kind) (settable_at (class_at (table_in w.layout) l.class) h))
+      right.look
+      ∙ ap (option_map (λ (p : Prop). p.kind)) (ap (settable_at class) four ∙ settable_own class at.k ∙ prop.1);
+      fits = cell.2;
+    }
 
 -- a value is set that a cell holds
 pub own_set : (w : Kept) (edits : Edits) (a h n : ℕ) (v : Value) (r : Actor) (kind : Kind) (cells : List Cell)

@@ -1,5 +1,5 @@
 -- What a world keeps, and how it is found there.
-use Rattle.std.specs.Prelude.{ℕ, ◌+◌, ◌-◌, ◌/◌, ◌%◌, ◌==◌, nat_lt, nat_le, pos, List, Bool, false, not, ◌&&◌, Option, Some, None, option_map, option_and_then, slice_get, unwrap_or, if◌then◌else◌}
+use Rattle.std.specs.Prelude.{ℕ, ◌+◌, ◌-◌, ◌/◌, ◌%◌, ◌==◌, nat_lt, nat_le, pos, List, Bool, true, false, not, ◌&&◌, Option, Some, None, option_map, option_and_then, slice_get, unwrap_or, if◌then◌else◌}
 use Rattle.std.specs.Bool.{then_some}
 use Rattle.std.specs.List.{list_any}
 use Rattle.protocol_model.specs.World.{is_custom}
@@ -57,6 +57,17 @@ abbrev pub switch_at : List Actor → List Cell → (actor handle : ℕ) → Boo
 switch_at actors cells a h =
     unwrap_or
     (option_map (λ (c : Cell). c.on) (option_and_then (λ (r : Actor). cell_at cells r h) (actor_at actors a))) false
+
+-- the values have one tag, and it is no enum's: a kind that the one fits, the other fits
+abbrev pub are_alike : Value → Value → Bool
+are_alike (Value.Bool a) (Value.Bool b) = true
+are_alike (Value.U8 a) (Value.U8 b) = true
+are_alike (Value.I32 a) (Value.I32 b) = true
+are_alike (Value.U32 a) (Value.U32 b) = true
+are_alike (Value.I64 a) (Value.I64 b) = true
+are_alike (Value.Packed a) (Value.Packed b) = true
+are_alike (Value.Guid a) (Value.Guid b) = true
+are_alike held v = false
 
 -- how an actor stands once a value of x or y is set
 abbrev pub moved_look : Look → (handle : ℕ) → Value → Look

@@ -3,7 +3,7 @@ ghost use Rattle.std.specs.Prelude.{◌≡◌, ◌<◌, ◌==◌, ℕ, ◌++◌,
 ghost use Rattle.std.specs.Option.{option_copied};
 ghost use Rattle.protocol_model.specs.declared.Kind.{Kind as KindSpec};
 ghost use Rattle.value_codec.specs.Values.{value_fits};
-ghost use Rattle.world_table.specs.Kept.{place_of, actor_at, living_at, place_in, cell_at, record_value, switch_at, first_cell, moved_look};
+ghost use Rattle.world_table.specs.Kept.{place_of, actor_at, living_at, place_in, cell_at, record_value, switch_at, first_cell, moved_look, are_alike};
 ghost use Rattle.world_table.specs.declared.actor.Actor.{Actor as ActorSpec};
 ghost use Rattle.world_table.specs.declared.actor.Cell.{Cell as CellSpec};
 
@@ -142,6 +142,37 @@ fn moved(look: Look, prop: Handle, value: Value) -> Look
         Value::I32(x) if prop.0 == 1 => Look { x, ..look },
         Value::I32(y) if prop.0 == 2 => Look { y, ..look },
         _ => look,
+    }
+}
+
+/// The value in a cell has the tag of this one, and it is no enum's. Each kind that the cell's value
+/// fits, this one fits too.
+pub(crate) fn holds_alike(cells: &[Cell], place: usize, value: Value) -> bool
+    requires { place < length cells.now }
+    ensures alike { (cell : CellSpec) → slice_get cells.now place ≡ Some cell
+        → result ≡ are_alike cell.value value }
+    ensures fits { IsTrue result → (cell : CellSpec) → slice_get cells.now place ≡ Some cell
+        → (kind : KindSpec) → IsTrue (value_fits kind cell.value) → IsTrue (value_fits kind value) }
+{
+    are_alike(cells[place].value, value)
+}
+
+/// Both values have one tag, and it is no enum's, so that each kind that the one fits, the other
+/// fits.
+fn are_alike(held: Value, value: Value) -> bool
+    ensures alike { result ≡ are_alike held value }
+    ensures fits { IsTrue result → (kind : KindSpec) → IsTrue (value_fits kind held)
+        → IsTrue (value_fits kind value) }
+{
+    match held {
+        Value::Bool(_) => matches!(value, Value::Bool(_)),
+        Value::U8(_) => matches!(value, Value::U8(_)),
+        Value::I32(_) => matches!(value, Value::I32(_)),
+        Value::U32(_) => matches!(value, Value::U32(_)),
+        Value::I64(_) => matches!(value, Value::I64(_)),
+        Value::Enum(_) => false,
+        Value::Packed(_) => matches!(value, Value::Packed(_)),
+        Value::Guid(_) => matches!(value, Value::Guid(_)),
     }
 }
 

@@ -97,6 +97,10 @@ impl<'a> World<'a> {
         ensures err { OnErr result (self.new ≡ self.old) }
         ensures table { self.new.layout ≡ self.old.layout }
     {
+        // Most edits set a value, so this one is looked for first.
+        if let Edit::Set { actor, prop, value } = e {
+            return self.set(actor, prop, value);
+        }
         self.take(e)
     }
 

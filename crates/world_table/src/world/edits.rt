@@ -8,7 +8,7 @@ ghost use Rattle.world_table.specs.Taking.{Answers, GoesAlong};
 
 use super::World;
 use crate::actor::{
-    Actor, cell_place, living, push_cells, put_moved, put_record, put_switch, put_value,
+    Actor, cell_place, holds_alike, living, push_cells, put_moved, put_record, put_switch, put_value,
 };
 use crate::change::{Change, changed, is_player};
 use crate::edit::{Edit, EditRefusal, Look};
@@ -19,7 +19,8 @@ use net_core::{Guid, Handle, Player};
 use protocol_model::limits::{SPAWN_LIMIT, TEAM_LIMIT};
 
 impl<'a> World<'a> {
-    /// Takes an edit by its kind.
+    /// Takes an edit by its kind, out of the way of `apply`, which takes a value that is set itself.
+    #[inline(never)]
     pub(super) fn take(&mut self, e: Edit) -> Result<Option<Guid>, EditRefusal>
         requires { (edits : Edits) × Stands self.old edits × (length edits < 2 ^ 61) }
         ensures stands { GoesAlong self.old e self.new result }
@@ -99,8 +100,37 @@ impl<'a> World<'a> {
         Ok(None)
     }
 
+    /// A value over one like it, which fits its property's kind, so that the class need not be asked;
+    /// any other by its kind.
+    pub(super) fn set(
+        &mut self,
+        actor: Guid,
+        prop: Handle,
+        value: Value,
+    ) -> Result<Option<Guid>, EditRefusal>
+        requires { (edits : Edits) × Stands self.old edits }
+        ensures stands { GoesAlong self.old (Edit.Set actor prop value) self.new result }
+        ensures answer { Answers self.old (Edit.Set actor prop value) result }
+        ensures err { OnErr result (self.new ≡ self.old) }
+        ensures table { self.new.layout ≡ self.old.layout }
+    {
+        // Called for its fact alone, as in `value`: each cell holds a value of its property's kind.
+        self.classes.keeps_rules();
+        let Some(kept) = living(&self.actors, actor) else {
+            return Err(EditRefusal::NoActor);
+        };
+        if let Some(place) = cell_place(kept, prop) {
+            if holds_alike(&self.cells, place, value) {
+                put_value(&mut self.cells, place, value);
+                return Ok(None);
+            }
+        }
+        self.set_by_kind(actor, prop, value)
+    }
+
     /// A value in its cell, written by its place; one of x or y in the record.
-    fn set(&mut self, actor: Guid, prop: Handle, value: Value) -> Result<Option<Guid>, EditRefusal>
+    #[inline(never)]
+    fn set_by_kind(&mut self, actor: Guid, prop: Handle, value: Value) -> Result<Option<Guid>, EditRefusal>
         requires { (edits : Edits) × Stands self.old edits }
         ensures stands { GoesAlong self.old (Edit.Set actor prop value) self.new result }
         ensures answer { Answers self.old (Edit.Set actor prop value) result }
