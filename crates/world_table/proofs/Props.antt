@@ -1,14 +1,12 @@
 -- The properties of a table in memory, and those of the table that it stands for.
-use Rattle.std.proofs.Common.{◌≡◌, ◌∙◌, ℕ, zero, suc, ◌-◌, ◌<◌, List, [], ◌∷◌, map, true, false, nat_le, ◌==◌, ◌||◌, Option, Some, None, option_map, option_and_then, unwrap_or, refl, ap, arith, if◌then◌else◌}
-use Rattle.std.specs.Prelude.{slice_get, slice_index_or}
+use Rattle.std.proofs.Common.{◌≡◌, ◌∙◌, ℕ, zero, suc, ◌-◌, ◌<◌, true, false, nat_le, ◌==◌, ◌||◌, Option, Some, None, option_map, unwrap_or, refl, ap, arith, if◌then◌else◌}
+use Rattle.std.specs.Prelude.{slice_get}
 use Rattle.std.proofs.lemmas.Bool.Decides.{nat_tests}
-use Rattle.std.proofs.lemmas.Option.{slice_get-map}
 use Rattle.protocol_model.specs.declared.Kind.{Kind}
 use Rattle.protocol_model.specs.Value as Model
-use Rattle.protocol_model.specs.World.{class_at, no_class, has_switch, is_custom}
-use Rattle.class_layout.specs.Tables.{Layout, entry_of, table_in}
+use Rattle.protocol_model.specs.World.{class_at, has_switch, is_custom}
+use Rattle.class_layout.specs.Tables.{Layout, table_in}
 use Rattle.class_members.specs.Members.{prop_of}
-use Rattle.class_layout.specs.declared.class.Class.{Class}
 use Rattle.class_members.specs.declared.members.Prop.{Prop}
 use Rattle.class_layout.proofs.InMemory.{props_in}
 use Rattle.world_table.specs.Answers.{settable_at}

@@ -90,8 +90,8 @@ kind_held w edits a h n r stands layout is place =
       cell = cell.0;
       is = ap (slice_get w.cells) at.place ∙ cell.1;
       some = ap (λ (l : Look). option_map (λ (p : Prop). p.kind) (settable_at (class_at (table_in w.layout) l.class) h))
-      right.look
-      ∙ ap (option_map (λ (p : Prop). p.kind)) (ap (settable_at class) four ∙ settable_own class at.k ∙ prop.1);
+          right.look
+          ∙ ap (option_map (λ (p : Prop). p.kind)) (ap (settable_at class) four ∙ settable_own class at.k ∙ prop.1);
       fits = cell.2;
     }
 

@@ -1,15 +1,13 @@
 -- How a world goes along with a spawn.
-use Rattle.std.proofs.Common.{◌≡◌, ◌≢◌, ◌∙◌, ℕ, ℤ, zero, suc, ◌+◌, ◌*◌, ◌<◌, ◌≤◌, List, [], ◌∷◌, ◌++◌, map, length, Bool, true, false, ◌==◌, ◌&&◌, nat_lt, Option, Some, None, option_map, refl, sym, ap, subst, arith, if◌then◌else◌, length-append, take, drop}
+use Rattle.std.proofs.Common.{◌≡◌, ◌≢◌, ◌∙◌, ℕ, ℤ, ◌+◌, ◌*◌, ◌<◌, ◌≤◌, List, [], ◌∷◌, ◌++◌, map, length, Bool, true, false, ◌==◌, ◌&&◌, Option, Some, None, option_map, refl, sym, ap, subst, arith, if◌then◌else◌, length-append}
 use Rattle.std.proofs.lemmas.List.{length-map}
-use Rattle.std.specs.Prelude.{slice_get, slice_index_or}
-use Rattle.std.specs.List.{list_all}
+use Rattle.std.specs.Prelude.{slice_get}
 use Rattle.std.proofs.lemmas.Bool.Decides.{nat_tests}
-use Rattle.std.proofs.lemmas.Option.{slice_get-map, slice_get_within, same_Some}
+use Rattle.std.proofs.lemmas.Option.{slice_get-map, same_Some}
 use Rattle.protocol_model.specs.Value as Model
-use Rattle.protocol_model.specs.World.{Edits, Spawn, Spawned, class_at, no_class, spawn_count, spawn_of, is_custom}
-use Rattle.class_layout.specs.Tables.{Layout, IsLayout, class_of, entry_of, entries_in, table_in}
+use Rattle.protocol_model.specs.World.{Edits, Spawn, Spawned, class_at, spawn_count, spawn_of, is_custom}
+use Rattle.class_layout.specs.Tables.{Layout, class_of, table_in}
 use Rattle.class_members.specs.Members.{prop_of}
-use Rattle.value_codec.specs.Values.{whole_of, value_fits, is_of}
 use Rattle.class_layout.specs.declared.class.Class.{Class}
 use Rattle.class_members.specs.declared.members.Prop.{Prop}
 use Rattle.class_layout.proofs.InMemory.{class_in_memory}

@@ -8,7 +8,8 @@ ghost use Rattle.world_table.specs.Taking.{Answers, GoesAlong};
 
 use super::World;
 use crate::actor::{
-    Actor, cell_place, holds_alike, living, push_cells, put_moved, put_record, put_switch, put_value,
+    Actor, cell_place, holds_alike, living, push_cells, put_moved, put_record, put_switch,
+    put_value,
 };
 use crate::change::{Change, changed, is_player};
 use crate::edit::{Edit, EditRefusal, Look};
@@ -19,7 +20,7 @@ use net_core::{Guid, Handle, Player};
 use protocol_model::limits::{SPAWN_LIMIT, TEAM_LIMIT};
 
 impl<'a> World<'a> {
-    /// Takes an edit by its kind, out of the way of `apply`, which takes a value that is set itself.
+    /// Takes an edit by its kind. It stays out of the way of `apply`, which looks for a `Set` first.
     #[inline(never)]
     pub(super) fn take(&mut self, e: Edit) -> Result<Option<Guid>, EditRefusal>
         requires { (edits : Edits) × Stands self.old edits × (length edits < 2 ^ 61) }
@@ -100,8 +101,8 @@ impl<'a> World<'a> {
         Ok(None)
     }
 
-    /// A value over one like it, which fits its property's kind, so that the class need not be asked;
-    /// any other by its kind.
+    /// A value over one with its tag, as most are: what is there fits the property's kind, so this one
+    /// does, and the class isn't asked. Any other value goes by its kind.
     pub(super) fn set(
         &mut self,
         actor: Guid,
@@ -128,9 +129,15 @@ impl<'a> World<'a> {
         self.set_by_kind(actor, prop, value)
     }
 
-    /// A value in its cell, written by its place; one of x or y in the record.
+    /// A value of its property's kind: in its cell, written by its place; one of x or y in the record.
+    /// It stays out of the way of `set`, which is then shorter.
     #[inline(never)]
-    fn set_by_kind(&mut self, actor: Guid, prop: Handle, value: Value) -> Result<Option<Guid>, EditRefusal>
+    fn set_by_kind(
+        &mut self,
+        actor: Guid,
+        prop: Handle,
+        value: Value,
+    ) -> Result<Option<Guid>, EditRefusal>
         requires { (edits : Edits) × Stands self.old edits }
         ensures stands { GoesAlong self.old (Edit.Set actor prop value) self.new result }
         ensures answer { Answers self.old (Edit.Set actor prop value) result }

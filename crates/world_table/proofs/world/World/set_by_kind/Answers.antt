@@ -1,10 +1,8 @@
-use Rattle.std.proofs.Common.{◌∙◌, ◌==◌, Bool, Some, None, option_map, refl, sym, ap, subst, if◌then◌else◌}
+use Rattle.std.proofs.Common.{◌∙◌, Bool, Some, None, option_map, refl, sym, ap, subst, if◌then◌else◌}
 use Rattle.protocol_model.specs.Value.{Class, Prop}
 use Rattle.protocol_model.specs.World.{OutOfRange}
-use Rattle.world_table.specs.declared.actor.Actor.{Actor}
-use Rattle.world_table.specs.declared.edit.Look.{Look}
 use Rattle.world_table.specs.Answers.{settable_at}
-use Rattle.world_table.specs.Kept.{Kept, actor_at}
+use Rattle.world_table.specs.Kept.{Kept}
 use Rattle.world_table.specs.Stands.{Stands}
 use Rattle.world_table.proofs.Changing.{lives_of}
 use Rattle.world_table.proofs.Refusing.{set_unknown, set_known}
