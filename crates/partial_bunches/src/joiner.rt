@@ -3,6 +3,7 @@ ghost use Rattle.std.specs.Prelude.{◌≡◌, ◌+◌, ◌*◌, ◌++◌, ◌<�
 ghost use Rattle.protocol_model.specs.Limits.{part_bits, part_limit};
 ghost use Rattle.protocol_model.specs.Packet.{Bunch as BunchSpec};
 ghost use Rattle.bit_io.specs.Lent.{slice_bits};
+ghost use Rattle.connection_model.specs.Windows.{part_fault as fault_of};
 ghost use Rattle.packet_codec.specs.Values.{bunch_of};
 ghost use Rattle.partial_bunches.specs.Joins.{Joins, IsAdded, kept_after, bits_kept, HasRoom};
 
@@ -76,6 +77,14 @@ impl Joiner {
         ensures { (kept : List BunchSpec) → Joins self.now kept → result ≡ not (length kept == 0) }
     {
         self.count > 0
+    }
+
+    /// The first rule of parts that a bunch would break if it came next on the channel.
+    pub fn fault(&self, b: &Bunch) -> Option<PartWhy>
+        ensures { (kept : List BunchSpec) → Joins self.now kept
+            → result ≡ fault_of kept (bunch_of b.now) b.now.part }
+    {
+        part_fault(b, self.count)
     }
 
     /// Adds the bunch that comes next on the channel. A whole unreliable bunch leaves the parts

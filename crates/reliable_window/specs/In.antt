@@ -1,11 +1,13 @@
 -- What a window of items received was offered, and what follows.
-use Rattle.std.specs.Prelude.{⊤, ◌≡◌, ℕ, ◌+◌, ◌<◌, ◌==◌, List, [], ◌∷◌, map, length, Bool, true, false, not, ◌||◌, nat_lt, nat_le, Option, Some, None, slice_get, ℤ, pos, negsuc, if◌then◌else◌}
+use Rattle.std.specs.Prelude.{⊤, ◌≡◌, ℕ, ◌+◌, ◌/◌, ◌<◌, ◌==◌, List, [], ◌∷◌, map, length, Bool, true, false, not, ◌||◌, nat_lt, nat_le, Option, Some, None, slice_get, ℤ, pos, negsuc, if◌then◌else◌}
 use Rattle.std.specs.Bool.{then_some}
 use Rattle.protocol_model.specs.Limits.{sequence_modulus, held_limit}
 use Rattle.protocol_model.specs.Bits.{near}
 use Rattle.protocol_model.specs.Search.{is_among, least_from, newest_of}
 use Rattle.reliable_window.specs.declared.offered.Offered.{Offered}
 use Rattle.reliable_window.specs.declared.offered.Offered.TheVariants as offered
+use Rattle.reliable_window.specs.declared.place.Place.{Place}
+use Rattle.reliable_window.specs.declared.place.Place.TheVariants as place
 
 -- the items received, each with the number as which it was, the newest first
 abbrev pub Received : Type 0 → Type 0
@@ -39,6 +41,19 @@ IsOffered got seq item held offered.Held =
 IsOffered got seq item held offered.Overrun =
     (is_repeat got (number_as got seq) ≡ false)
     × (nat_lt (next_of got) (natural_of (number_as got seq)) ≡ true) × (nat_lt held held_limit ≡ false)
+
+-- where this number stands
+abbrev pub IsPlaced : {T : Type 0} → Received T → ℤ → Place → Type 0
+IsPlaced got number place.Repeat = is_repeat got number ≡ true
+IsPlaced got number place.Next = number ≡ pos (next_of got)
+IsPlaced got number (place.Ahead n) =
+    (number ≡ pos n) × (next_of got < n) × (is_repeat got number ≡ false)
+
+-- a number ahead of the next is less than half the modulus above it
+abbrev pub IsAhead : (next : ℕ) → Place → Type 0
+IsAhead next place.Repeat = ⊤
+IsAhead next place.Next = ⊤
+IsAhead next (place.Ahead n) = (next < n) × (n < next + sequence_modulus / 2)
 
 -- what was received with this item, if it was taken
 abbrev pub with_offer : {T : Type 0} → Received T → (seq : ℕ) → (item : T) → Offered T → Received T

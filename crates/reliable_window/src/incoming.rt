@@ -1,11 +1,12 @@
 // Items received, handed over in order and each once.
-ghost use Rattle.std.specs.Prelude.{◌≡◌, ◌+◌, ◌<◌, ◌≤◌, ◌^◌, ◌∷◌, [], ℕ, pos, ◌<ℤ◌, None, Some, IfOk, IfSome, IfNone, OnErr, OnSome, nat_lt};
+ghost use Rattle.std.specs.Prelude.{◌≡◌, ◌+◌, ◌/◌, ◌<◌, ◌≤◌, ◌^◌, ◌∷◌, [], ℕ, pos, ◌<ℤ◌, None, Some, IfOk, IfSome, IfNone, OnOk, OnErr, OnSome, nat_lt};
 ghost use Rattle.protocol_model.specs.Bits.{near};
 ghost use Rattle.protocol_model.specs.Limits.{sequence_modulus, held_limit};
-ghost use Rattle.reliable_window.specs.In.{Received, Stands, HandsOver, IsOffered, RestsAfter, with_offer, next_of, item_of};
+ghost use Rattle.reliable_window.specs.In.{Received, Stands, HandsOver, IsOffered, IsPlaced, IsAhead, RestsAfter, with_offer, next_of, number_as, item_of};
 
 use crate::held::{hold, is_held};
 use crate::offered::Offered;
+use crate::place::Place;
 use bit_io::{Memory, near};
 use protocol_model::limits::{HELD_LIMIT, SEQUENCE_MODULUS};
 use std::alloc::Global;
@@ -37,7 +38,8 @@ impl<T> Model for InWindow<T> {
 impl<T: Drop> InWindow<T> {
     /// Nothing was received; the first item has number 1.
     pub fn new(alloc: Global) -> InWindow<T>
-        ensures { Stands result [] }
+        ensures stands { Stands result [] }
+        ensures empty { result ≡ record { next = 1; held = [] } }
     {
         InWindow {
             next: 1,
@@ -47,9 +49,57 @@ impl<T: Drop> InWindow<T> {
 
     /// The number of the next item to be handed over, from 1 on.
     pub fn next(&self) -> u64
-        ensures { result ≡ self.now.next }
+        ensures next { result ≡ self.now.next }
+        ensures least { 1 ≤ result }
+        ensures most { result ≤ 2 ^ 61 + sequence_modulus }
     {
         self.next
+    }
+
+    /// Where an item stands by its number modulo 1,024: its number is the nearest to the next. All
+    /// that were ready were handed over.
+    pub fn place(&self, seq: u16) -> Place
+        requires { seq < sequence_modulus }
+        ensures placed { (got : Received T) → Stands self.now got
+            → IsPlaced got (number_as got seq) result }
+        ensures ahead { IsAhead self.now.next result }
+    {
+        let Some(ahead) = ahead_of(seq, self.next) else {
+            return Place::Repeat;
+        };
+        if ahead == 0 {
+            return Place::Next;
+        }
+        if is_held(&self.held, ahead) {
+            return Place::Repeat;
+        }
+        Place::Ahead(self.next + ahead as u64)
+    }
+
+    /// Goes on to the item after the next, which the caller takes without having it kept here.
+    pub fn pass(&mut self)
+        requires { self.old.next < 2 ^ 61 }
+        ensures next { self.new.next ≡ self.old.next + 1 }
+        ensures stands { (got : Received T) (item : T) → Stands self.old got
+            → HandsOver self.new ((next_of got, item) ∷ got) }
+    {
+        self.held.pop_front();
+        self.next += 1;
+    }
+
+    /// Keeps an item ahead of the next by its number, less than 512 above it. `Memory` changes
+    /// nothing.
+    pub fn keep(&mut self, number: u64, item: T) -> Result<(), Memory>
+        requires low { self.old.next < 2 ^ 61 }
+        requires above { self.old.next < number }
+        requires within { number < self.old.next + sequence_modulus / 2 }
+        ensures stands { OnOk result ((got : Received T) → Stands self.old got
+            → Stands self.new ((number, item) ∷ got)) }
+        ensures err { OnErr result (self.new ≡ self.old) }
+    {
+        let ahead = number - self.next;
+        hold(&mut self.held, ahead as usize, item)?;
+        Ok(())
     }
 
     /// Offers an item by its number modulo 1,024: its number is the nearest to the next. `held`
@@ -70,28 +120,29 @@ impl<T: Drop> InWindow<T> {
             → RestsAfter self.new got seq item o) }
         ensures err { OnErr result (self.new ≡ self.old) }
     {
-        let Some(ahead) = ahead_of(seq, self.next) else {
-            return Ok(Offered::Repeat);
-        };
-        if ahead == 0 {
-            self.held.pop_front();
-            self.next += 1;
-            return Ok(Offered::Ready(item));
+        match self.place(seq) {
+            Place::Repeat => Ok(Offered::Repeat),
+            Place::Next => {
+                self.pass();
+                Ok(Offered::Ready(item))
+            }
+            Place::Ahead(number) => {
+                if held >= HELD_LIMIT {
+                    return Ok(Offered::Overrun);
+                }
+                self.keep(number, item)?;
+                Ok(Offered::Held)
+            }
         }
-        if is_held(&self.held, ahead) {
-            return Ok(Offered::Repeat);
-        }
-        if held >= HELD_LIMIT {
-            return Ok(Offered::Overrun);
-        }
-        hold(&mut self.held, ahead, item)?;
-        Ok(Offered::Held)
     }
 
     /// Hands over the item numbered next, and goes on to the one after it. `None` exactly where it
     /// isn't held, and nothing changes.
     pub fn ready(&mut self) -> Option<T>
         ensures item { result ≡ item_of self.old.held self.old.next }
+        ensures next { OnSome result (self.new.next ≡ self.old.next + 1) }
+        ensures none { result ≡ None → self.new ≡ self.old }
+        ensures most { self.new.next ≤ 2 ^ 61 + sequence_modulus }
         ensures stands { (got : Received T) → HandsOver self.old got → result ≡ None
             → Stands self.new got }
         ensures on { OnSome result ((got : Received T) → HandsOver self.old got

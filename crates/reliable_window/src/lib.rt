@@ -31,6 +31,7 @@ mod incoming;
 mod marks;
 mod offered;
 mod outgoing;
+mod place;
 mod settle;
 mod slot;
 #[cfg(test)]
@@ -40,3 +41,4 @@ pub use bit_io::Memory;
 pub use incoming::InWindow;
 pub use offered::Offered;
 pub use outgoing::OutWindow;
+pub use place::Place;
