@@ -1,0 +1,4 @@
+pub mod Needed
+pub mod Upwards
+pub mod Searching
+pub mod Within
