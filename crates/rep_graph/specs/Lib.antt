@@ -1,0 +1,4 @@
+pub mod Spots
+pub mod Standings
+pub mod Graph
+pub mod Turns
