@@ -1,0 +1,9 @@
+pub mod Known
+pub mod Alike
+pub mod Moves
+pub mod Sendings
+pub mod Making
+pub mod Carrying
+pub mod Orders
+pub mod Growing
+pub mod Hearing

@@ -1,0 +1,5 @@
+pub mod Known
+pub mod Alike
+pub mod Due
+pub mod Moves
+pub mod Sendings
