@@ -1,0 +1,11 @@
+pub mod Sets
+pub mod Pieces
+pub mod Settled
+pub mod Bunches
+pub mod Pushed
+pub mod Carried
+pub mod Totals
+pub mod Told
+pub mod Found
+pub mod Views
+pub mod Places

@@ -1,0 +1,4 @@
+pub mod Made
+pub mod Keeps
+pub mod Slots
+pub mod Indexes
