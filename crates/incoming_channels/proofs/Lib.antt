@@ -1,0 +1,5 @@
+mod Stepping
+mod Going
+mod Counting
+mod Hearing
+mod Keeping

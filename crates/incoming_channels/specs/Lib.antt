@@ -1,0 +1,5 @@
+pub mod Channels
+pub mod Keeps
+pub mod Receiving
+pub mod Messages
+pub mod Steps
