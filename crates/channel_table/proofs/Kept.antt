@@ -19,7 +19,8 @@ use Rattle.outgoing_channels.specs.Made.{Made}
 use Rattle.outgoing_channels.specs.Keeps.{KeepsMade}
 use Rattle.outgoing_channels.proofs.Pushed.{keeps_alike}
 use Rattle.incoming_channels.specs.Channels.{Got, Incoming, in_at}
-use Rattle.incoming_channels.specs.Keeps.{KeepsGot, KeepsIn, KeepsBunches, holder_said}
+use Rattle.incoming_channels.specs.Keeps.{KeepsGot, KeepsIn, KeepsBunches}
+use Rattle.receiving_laws.specs.Holders.{holder_said}
 use Rattle.channel_table.specs.Channels.{Channels, WaitingCall}
 use Rattle.channel_table.specs.Keeps.{Keeps, IsSpent}
 
@@ -35,13 +36,15 @@ pub not_spent : {A : Type 0} (t : Channels) → t.got.spent ≡ false → IsSpen
 not_spent t e (inl s) = absurd (false≢true (sym e ∙ s))
 not_spent t e (inr a) = a
 
-in_alike : (one other : Past) (ch : ℕ) (i : Incoming) → SameHeard one other → KeepsIn one ch i → KeepsIn other ch i
+in_alike : (one other : Past) (ch : ℕ) (i : Incoming) → SameHeard one other → KeepsIn one ch i
+    → KeepsIn other ch i
 in_alike one other ch i h k = record {
   bunches = subst (λ got. KeepsBunches got i) (sym (h.received ch)) k.bunches;
   copied = k.copied ∙ ap (λ ds. unwrap_or (newest_of (holder_said ch) ds) false) (sym h.handed);
 }
 
-pub got_alike : (g : Got) (side : Side) (one other : Past) → SameHeard one other → KeepsGot g side one → KeepsGot g side other
+pub got_alike : (g : Got) (side : Side) (one other : Past) → SameHeard one other → KeepsGot g side one
+    → KeepsGot g side other
 got_alike g side one other h k = record {
   server = k.server;
   received = λ ch. in_alike one other ch (in_at g.incoming ch) h (k.received ch);
@@ -52,26 +55,36 @@ got_alike g side one other h k = record {
 
 -- ---- the deeds of the outgoing side
 
-pub keeps_making : (t : Channels) (made : Made) (side : Side) (sent past : Past) (ch : ℕ) (m : Message) → Keeps t side (sent ++ past) → are_sendings sent ≡ true
+pub keeps_making : (t : Channels) (made : Made) (side : Side) (sent past : Past) (ch : ℕ) (m : Message)
+    → Keeps t side (sent ++ past) → are_sendings sent ≡ true
     → KeepsMade made (after_making (sent ++ past) ch m)
     → Keeps (record t { made = made; high = made.high }) side (sent ++ after_making past ch m)
 keeps_making t made side sent past ch m h s k =
-    let now : KeepsMade made (sent ++ after_making past ch m) = keeps_alike made (after_making (sent ++ past) ch m) (sent ++ after_making past ch m) (making_below sent past s ch m) k in record {
+    let now : KeepsMade made (sent ++ after_making past ch m) = keeps_alike made
+    (after_making (sent ++ past) ch m) (sent ++ after_making past ch m) (making_below sent past s ch m) k in
+    record {
       made = now;
-      got = got_alike t.got side (sent ++ past) (sent ++ after_making past ch m) (heard_made sent past s ch m) h.got;
+      got =
+          got_alike t.got side (sent ++ past) (sent ++ after_making past ch m) (heard_made sent past s ch m)
+          h.got;
       high = now.high;
     }
 
-pub keeps_carrying : (t : Channels) (made : Made) (side : Side) (past : Past) (packet time : ℕ) (items more : List Item) → Keeps t side (Sent packet time items ∷ past)
+pub keeps_carrying : (t : Channels) (made : Made) (side : Side) (past : Past) (packet time : ℕ)
+    (items more : List Item)
+    → Keeps t side (Sent packet time items ∷ past)
     → KeepsMade made (Sent packet time more ∷ past)
     → Keeps (record t { made = made; high = made.high }) side (Sent packet time more ∷ past)
 keeps_carrying t made side past packet time items more h k = record {
   made = k;
-  got = got_alike t.got side (Sent packet time items ∷ past) (Sent packet time more ∷ past) (heard_sent packet time items more past) h.got;
+  got =
+      got_alike t.got side (Sent packet time items ∷ past) (Sent packet time more ∷ past)
+      (heard_sent packet time items more past) h.got;
   high = k.high;
 }
 
-pub keeps_moving : (t : Channels) (made : Made) (side : Side) (past after : Past) (from to : ℕ) → Keeps t side past → IsMove from to past after → KeepsMade made after
+pub keeps_moving : (t : Channels) (made : Made) (side : Side) (past after : Past) (from to : ℕ)
+    → Keeps t side past → IsMove from to past after → KeepsMade made after
     → Keeps (record t { made = made; high = made.high }) side after
 keeps_moving t made side past after from to h m k = record {
   made = k;
@@ -81,11 +94,15 @@ keeps_moving t made side past after from to h m k = record {
 
 -- ---- a bunch is received
 
-pub keeps_heard : (t : Channels) (got : Got) (side : Side) (past : Past) (m : ℕ) (entries : List Entry) (handed after : List Delivered) (b : Bunch)
-    → Keeps t side (Took m entries handed ∷ past) → KeepsGot got side (Took m (Heard b ∷ entries) after ∷ past)
+pub keeps_heard : (t : Channels) (got : Got) (side : Side) (past : Past) (m : ℕ) (entries : List Entry)
+    (handed after : List Delivered) (b : Bunch)
+    → Keeps t side (Took m entries handed ∷ past)
+    → KeepsGot got side (Took m (Heard b ∷ entries) after ∷ past)
     → Keeps (record t { got = got }) side (Took m (Heard b ∷ entries) after ∷ past)
 keeps_heard t got side past m entries handed after b h k = record {
-  made = keeps_alike t.made (Took m entries handed ∷ past) (Took m (Heard b ∷ entries) after ∷ past) (alike_heard m entries handed after b past) h.made;
+  made =
+      keeps_alike t.made (Took m entries handed ∷ past) (Took m (Heard b ∷ entries) after ∷ past)
+      (alike_heard m entries handed after b past) h.made;
   got = k;
   high = h.high;
 }
@@ -97,7 +114,8 @@ on_ok (Err e) P Q f h = h
 
 -- ---- what the table doesn't see
 
-pub keeps_unseen : (t : Channels) (side : Side) (one other : Past) → Alike one other → SameHeard one other → Keeps t side one → Keeps t side other
+pub keeps_unseen : (t : Channels) (side : Side) (one other : Past) → Alike one other → SameHeard one other
+    → Keeps t side one → Keeps t side other
 keeps_unseen t side one other a s h = record {
   made = keeps_alike t.made one other a h.made;
   got = got_alike t.got side one other s h.got;
@@ -105,8 +123,10 @@ keeps_unseen t side one other a s h = record {
 }
 
 -- acknowledgements that were spelled otherwise
-pub keeps_news : (t : Channels) (side : Side) (one other : Past) → SameNews one other → Keeps t side one → Keeps t side other
-keeps_news t side one other n h = keeps_unseen t side one other (news_alike one other n) (heard_fates one other n.rest) h
+pub keeps_news : (t : Channels) (side : Side) (one other : Past) → SameNews one other → Keeps t side one
+    → Keeps t side other
+keeps_news t side one other n h =
+    keeps_unseen t side one other (news_alike one other n) (heard_fates one other n.rest) h
 
 -- ---- free indexes
 

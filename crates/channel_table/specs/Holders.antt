@@ -29,11 +29,13 @@ channels_of bound = map (λ (b : ℕ × ℕ). b.1) bound
 -- each actor is bound once, and each channel
 abbrev pub AreApart : List (ℕ × ℕ) → Type 0
 AreApart [] = ⊤
-AreApart (b ∷ bound) = (is_among b.0 (actors_of bound) ≡ false) × (is_among b.1 (channels_of bound) ≡ false) × AreApart bound
+AreApart (b ∷ bound) =
+    (is_among b.0 (actors_of bound) ≡ false) × (is_among b.1 (channels_of bound) ≡ false) × AreApart bound
 
 -- each channel's place has its holder, and the set has the channels that are held
 pub record IsHeld (bound : List (ℕ × ℕ)) (holders : List (Option ℕ)) (used : List ℕ) : Type 0 where
   pub apart : AreApart bound
   pub at : (ch : ℕ) → holder_at holders ch ≡ actor_bound bound ch
-  pub marked : (ch : ℕ) → ch < channels_two → bit_in used ch ≡ (if is_some (actor_bound bound ch) then 1 else 0)
+  pub marked : (ch : ℕ) → ch < channels_two
+      → bit_in used ch ≡ (if is_some (actor_bound bound ch) then 1 else 0)
   pub most : (ch : ℕ) → channels_two ≤ ch → actor_bound bound ch ≡ None

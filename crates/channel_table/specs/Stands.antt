@@ -28,5 +28,6 @@ waiting_call message = record { actor = actor_of message; call = call_number mes
 pub record Stands (t : Channels) (side : Side) (past : Past) : Type 0 where
   pub bunches : Keeps t side past
   pub bound : (a : ℕ) → channel_bound t.bound a ≡ held_channel side past a
-  pub apart : (ch : ℕ) (a b : ℕ) → held_channel side past a ≡ Some ch → held_channel side past b ≡ Some ch → a ≡ b
+  pub apart : (ch : ℕ) (a b : ℕ) → held_channel side past a ≡ Some ch → held_channel side past b ≡ Some ch
+      → a ≡ b
   pub waiting : t.waiting ≡ map waiting_call (waiting_of past)

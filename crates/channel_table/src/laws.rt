@@ -1,24 +1,15 @@
 // Laws that callers use.
 ghost use Rattle.std.specs.Prelude.{◌≡◌, ◌≤◌, ℕ, List, [], ◌∷◌, ◌++◌, Some, true, false};
-ghost use Rattle.protocol_model.specs.Side.{Side, AtServer};
-ghost use Rattle.protocol_model.specs.Packet.{Bunch};
+ghost use Rattle.protocol_model.specs.Side.{Side};
 ghost use Rattle.protocol_model.specs.Payload.{Message};
 ghost use Rattle.protocol_model.specs.Sight.{Seen};
-ghost use Rattle.connection_model.specs.Feed.{End, Past, Deed, Item};
+ghost use Rattle.connection_model.specs.Feed.{Past, Deed, Item};
 ghost use Rattle.connection_model.specs.Bunches.{is_carried_as, is_due, made_count};
-ghost use Rattle.connection_model.specs.Verdict.{bunch_heard};
 ghost use Rattle.channel_laws.specs.Moves.{SameNews};
 ghost use Rattle.channel_laws.specs.Alike.{Alike, SameHeard};
 ghost use Rattle.channel_laws.specs.Due.{next_due};
 ghost use Rattle.channel_table.specs.Channels.{Channels};
 ghost use Rattle.channel_table.specs.Keeps.{Keeps};
-ghost use Rattle.incoming_channels.specs.Receiving.{raws_heard, read_raws};
-
-/// What a bunch does at the server is what its whole payloads do, read one by one.
-pub fn heard_is_read()
-    ensures { (end : End) (past : Past) (b : Bunch) → end.side ≡ AtServer
-        → bunch_heard end past b ≡ read_raws end past (raws_heard AtServer past b) }
-{}
 
 /// The table doesn't see how acknowledgements were spelled, ticks, calls that wait, a packet that
 /// begins, items that are no bunches made, and a packet that is taken, before its entries.

@@ -15,8 +15,9 @@ ghost use Rattle.outgoing_channels.specs.Made.{IsMarked};
 ghost use Rattle.channel_table.specs.Holders.{channel_bound, actor_bound, without_channel};
 ghost use Rattle.channel_table.specs.Keeps.{Keeps, IsSpent};
 ghost use Rattle.channel_table.specs.Stands.{Stands};
-ghost use Rattle.incoming_channels.specs.Receiving.{raws_heard};
-ghost use Rattle.incoming_channels.specs.Messages.{AreRaws, AreRead};
+ghost use Rattle.receiving_laws.specs.Receiving.{raws_heard};
+ghost use Rattle.incoming_channels.specs.Messages.{AreRaws};
+ghost use Rattle.receiving_laws.specs.Readings.{AreRead};
 ghost use Rattle.channel_table.specs.Calls.{waiting_value};
 
 use crate::calls::{Waiting, WaitingCall};

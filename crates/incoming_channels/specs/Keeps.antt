@@ -1,29 +1,14 @@
 -- How what the channels keep follows from the bunches that the end received.
-use Rattle.std.specs.Prelude.{◌≡◌, ℕ, ◌≤◌, ◌==◌, List, [], ◌∷◌, Bool, true, false, Option, Some, None, unwrap_or}
-use Rattle.std.specs.Bool.{then_some}
+use Rattle.std.specs.Prelude.{◌≡◌, ℕ, ◌≤◌, List, [], ◌∷◌, Bool, true, false, Option, Some, None}
 use Rattle.protocol_model.specs.Limits.{held_limit}
 use Rattle.protocol_model.specs.Side.{Side, AtServer, AtClient}
 use Rattle.protocol_model.specs.Packet.{Bunch}
-use Rattle.protocol_model.specs.Payload.{Opens, Closes}
-use Rattle.protocol_model.specs.Search.{newest_of}
-use Rattle.connection_model.specs.Feed.{Past, Delivered}
+use Rattle.connection_model.specs.Feed.{Past}
 use Rattle.connection_model.specs.Windows.{Received, received_on, applied_of, kept_of, first_of, held_count}
-use Rattle.connection_model.specs.Copies.{delivered_of}
 use Rattle.reliable_window.specs.In.{Stands}
 use Rattle.partial_bunches.specs.Joins.{Joins}
+use Rattle.receiving_laws.specs.Holders.{is_copied_on}
 use Rattle.incoming_channels.specs.Channels.{Flags, Parts, Incoming, Got, in_at}
-
--- what a payload says of who holds its channel
-abbrev pub holder_said : (channel : ℕ) → Delivered → Option Bool
-holder_said ch d = elim d.message [
-  | Opens exports actor class values ↦ then_some (d.channel == ch) true
-  | Closes actor sleeps ↦ then_some (d.channel == ch) false
-  | _ ↦ None
-]
-
--- a copy holds the channel, by the opens and closes that were handed on
-abbrev pub is_copied_on : Past → (channel : ℕ) → Bool
-is_copied_on past ch = unwrap_or (newest_of (holder_said ch) (delivered_of past)) false
 
 -- a bunch's flags
 abbrev pub flags_of : Bunch → Flags

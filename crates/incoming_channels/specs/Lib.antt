@@ -1,5 +1,4 @@
 pub mod Channels
 pub mod Keeps
-pub mod Receiving
 pub mod Messages
 pub mod Steps

@@ -1,5 +1,5 @@
 -- What a bunch in its turn makes of the parts under way, and a run of them of the payloads.
-use Rattle.std.specs.Prelude.{◌≡◌, ℕ, ◌+◌, ◌-◌, ◌≤◌, List, [], ◌∷◌, ◌++◌, length, map, Bool, true, false, Option, Some, None, filter, nat_lt, nat_le, if◌then◌else◌, pos}
+use Rattle.std.specs.Prelude.{◌≡◌, ℕ, ◌+◌, ◌-◌, ◌≤◌, List, [], ◌∷◌, length, Bool, true, false, Option, Some, None, filter, nat_lt, nat_le, if◌then◌else◌, pos}
 use Rattle.std.specs.List.{AllByRecursion}
 use Rattle.std.specs.Bool.{then_some}
 use Rattle.protocol_model.specs.Limits.{held_limit}
@@ -12,7 +12,7 @@ use Rattle.connection_model.specs.Windows.{Received, numbers_of, next_of, number
 use Rattle.reliable_window.specs.In.{Window, Stands}
 use Rattle.incoming_channels.specs.Channels.{Parts, Incoming}
 use Rattle.incoming_channels.specs.Keeps.{Joining, KeepsBunches, is_server}
-use Rattle.incoming_channels.specs.Receiving.{Raw, Raws, with_raw, raws_of, copied_after}
+use Rattle.receiving_laws.specs.Receiving.{Raw, Raws, with_raw, raws_of, copied_after, copied_through}
 use Rattle.incoming_channels.specs.Messages.{IsRaw, AreRaws}
 use Rattle.incoming_channels.specs.declared.message.Message.{Message as MessageValue}
 use Rattle.incoming_channels.specs.declared.parts.Step.{Step}
@@ -49,18 +49,14 @@ held_of got = length (filter (λ (r : Received). nat_lt (next_of got) r.0) got)
 
 -- ---- one bunch
 
--- whether a copy holds the channel after these payloads
-abbrev pub copied_through : (copied : Bool) → List Raw → Bool
-copied_through copied [] = copied
-copied_through copied (raw ∷ raws) = copied_through (copied_after copied raw.0) raws
-
 -- these payloads before the others
 abbrev pub with_raws : List Raw → Raws → Raws
 with_raws [] raws = raws
 with_raws (raw ∷ more) raws = with_raw raw (with_raws more raws)
 
 -- a reliable bunch breaks a rule, is a part of a payload or the end of one, where others come after it
-abbrev pub IsStep : Side → (kept : List Bunch) → Bunch → (more : List Bunch) → (old new : Parts) → Step → Type 0
+abbrev pub IsStep : Side → (kept : List Bunch) → Bunch → (more : List Bunch) → (old new : Parts) → Step
+    → Type 0
 IsStep side kept b more old new (step.Broken cause) =
     raws_of side old.copied kept (b ∷ more) ≡ record { whole = []; cause = Some cause }
 IsStep side kept b more old new step.More =
@@ -138,7 +134,8 @@ abbrev pub offered_raws : Side → (copied : Bool) → (held : ℕ) → List Rec
 offered_raws side copied held got b Repeat = record { whole = []; cause = None }
 offered_raws side copied held got b (Held n) =
     record { whole = []; cause = then_some (nat_le held_limit held) (Overrun b.channel) }
-offered_raws side copied held got b Ready = raws_of side copied (kept_of (applied_of got)) (ready_bunches got b)
+offered_raws side copied held got b Ready =
+    raws_of side copied (kept_of (applied_of got)) (ready_bunches got b)
 
 abbrev pub raws_on : Side → (copied : Bool) → (held : ℕ) → List Received → Bunch → Raws
 raws_on side copied held got b =
@@ -154,7 +151,8 @@ abbrev pub IsPlacedNext : List Received → Bunch → Type 0
 IsPlacedNext got b = number_as got b ≡ pos (next_of got)
 
 -- what was received before it, and the premises
-pub record Before (side : Side) (server : Bool) (got : List Received) (held : ℕ) (b : Bunch) (i : Incoming) : Type 0 where
+pub record Before (side : Side) (server : Bool) (got : List Received) (held : ℕ) (b : Bunch) (i : Incoming) :
+    Type 0 where
   pub end : server ≡ is_server side
   pub bunches : KeepsBunches got i
   pub on : AreReceivedOn b.channel got
@@ -163,15 +161,18 @@ pub record Before (side : Side) (server : Bool) (got : List Received) (held : �
   pub few : held ≤ held_limit
 
 -- after a bunch that broke no rule
-pub record After (side : Side) (got : List Received) (held : ℕ) (b : Bunch) (old new : Incoming) (now : ℕ) : Type 0 where
+pub record After (side : Side) (got : List Received) (held : ℕ) (b : Bunch) (old new : Incoming) (now : ℕ) :
+    Type 0 where
   pub bunches : KeepsBunches (with_heard got b) new
-  pub copied : new.parts.copied ≡ copied_through old.parts.copied (raws_on side old.parts.copied held got b).whole
+  pub copied : new.parts.copied ≡ copied_through old.parts.copied
+      (raws_on side old.parts.copied held got b).whole
   pub begun : AreRawsOn b.channel (raws_on side old.parts.copied held got b).whole
   pub count : now + held_of got ≡ held + held_of (with_heard got b)
   pub few : now ≤ held_limit
 
 -- what came of it
-pub record IsHeard (side : Side) (got : List Received) (held : ℕ) (b : Bunch) (old new : Incoming) (heard : Heard) : Type 0 where
+pub record IsHeard (side : Side) (got : List Received) (held : ℕ) (b : Bunch) (old new : Incoming)
+    (heard : Heard) : Type 0 where
   pub told : AreRaws (raws_on side old.parts.copied held got b).whole heard.whole
   pub cause : (raws_on side old.parts.copied held got b).cause ≡ heard.cause
   pub after : heard.cause ≡ None → After side got held b old new heard.held

@@ -8,8 +8,9 @@ ghost use Rattle.connection_model.specs.Verdict.{is_misplaced as misplaced_of};
 ghost use Rattle.packet_codec.specs.Values.{bunch_of};
 ghost use Rattle.incoming_channels.specs.Channels.{in_at};
 ghost use Rattle.incoming_channels.specs.Keeps.{KeepsGot, IsSpent, is_server};
-ghost use Rattle.incoming_channels.specs.Receiving.{raws_heard};
-ghost use Rattle.incoming_channels.specs.Messages.{AreRaws, AreRead};
+ghost use Rattle.receiving_laws.specs.Receiving.{raws_heard};
+ghost use Rattle.incoming_channels.specs.Messages.{AreRaws};
+ghost use Rattle.receiving_laws.specs.Readings.{AreRead};
 ghost use Rattle.incoming_channels.specs.Steps.{Before, IsHeard};
 
 use crate::message::{Delivered, MessageList};

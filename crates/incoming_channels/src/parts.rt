@@ -6,7 +6,7 @@ ghost use Rattle.packet_codec.specs.Values.{bunch_of};
 ghost use Rattle.partial_bunches.specs.Joins.{ends_with};
 ghost use Rattle.incoming_channels.specs.Channels.{no_parts};
 ghost use Rattle.incoming_channels.specs.Keeps.{Joining, is_server};
-ghost use Rattle.incoming_channels.specs.Receiving.{is_astray as astray_of};
+ghost use Rattle.receiving_laws.specs.Receiving.{is_astray as astray_of};
 ghost use Rattle.incoming_channels.specs.Steps.{AreOn, IsStep, IsLooseStep};
 
 use crate::flags::Flags;

@@ -17,11 +17,14 @@ invariant_of-self c =
     sym (c.self.invariant.at c.args.channel) ∙ sym c.holder.ensures ∙ c.in-Some.is in
     let entries = c.shift_remove.ensures.entries
     ∙ removed_is c.self.inside.by_actor.entries c.in-Some.actor c.args.channel c.self.invariant.apart held in
-    rw entries (holds_left c.self.inside.by_actor.entries c.self.inside.by_channel.items c.self.inside.used c.put.new.self c.args.channel
-    c.self.invariant (held_within c.self.inside.by_channel.items c.args.channel c.in-Some.actor (sym c.holder.ensures ∙ c.in-Some.is)) (λ k low. c.put.ensures k))
+    rw entries (holds_left c.self.inside.by_actor.entries c.self.inside.by_channel.items c.self.inside.used
+    c.put.new.self c.args.channel
+    c.self.invariant (held_within c.self.inside.by_channel.items c.args.channel c.in-Some.actor
+    (sym c.holder.ensures ∙ c.in-Some.is)) (λ k low. c.put.ensures k))
 
 pub returns-in_default : goal.returns-in_default
 returns-in_default c =
     let none : actor_bound c.args.self.now c.args.channel ≡ None =
-    ap (λ (xs : _). actor_bound xs c.args.channel) (sym c.self.view_is) ∙ sym (c.self.invariant.at c.args.channel) ∙ sym c.holder.ensures ∙ c.in_default.is in
+    ap (λ (xs : _). actor_bound xs c.args.channel) (sym c.self.view_is)
+    ∙ sym (c.self.invariant.at c.args.channel) ∙ sym c.holder.ensures ∙ c.in_default.is in
     sym (none_left_out c.args.self.now c.args.channel (none_among c.args.self.now c.args.channel none))

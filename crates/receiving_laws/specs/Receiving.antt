@@ -1,13 +1,13 @@
 -- Whole payloads out of bunches, before they are read: the windows, the parts, and who holds a channel.
-use Rattle.std.specs.Prelude.{◌≡◌, ℕ, ◌==◌, List, [], ◌∷◌, ◌++◌, map, length, Bool, true, false, not, ◌&&◌, ◌||◌, nat_lt, Option, Some, None, Result, Ok, Err, if◌then◌else◌}
+use Rattle.std.specs.Prelude.{◌==◌, List, [], ◌∷◌, length, Bool, true, false, not, ◌&&◌, nat_lt, Option, Some, None, Ok, Err, if◌then◌else◌}
 use Rattle.protocol_model.specs.Side.{Side, AtServer, AtClient}
 use Rattle.protocol_model.specs.Packet.{Bunch}
 use Rattle.protocol_model.specs.declared.Cause.{Cause}
 use Rattle.protocol_model.specs.declared.Cause.TheVariants.{BadChannel, BadPart}
-use Rattle.connection_model.specs.Feed.{End, Past, Delivered}
+use Rattle.connection_model.specs.Feed.{End, Past}
 use Rattle.connection_model.specs.Windows.{Received, received_on, Offer, Repeat, Ready, Held, offer_of, number_as, ready_bunches, applied_of, kept_of, part_fault, ends_payload, first_of, joined_bits}
 use Rattle.connection_model.specs.Verdict.{is_misplaced, overrun_cause, payload_result, with_handed, Progress}
-use Rattle.incoming_channels.specs.Keeps.{is_copied_on}
+use Rattle.receiving_laws.specs.Holders.{is_copied_on}
 
 -- a whole payload that wasn't read yet: the bunch with which it began, and its bits
 abbrev pub Raw : Type 0
@@ -33,6 +33,11 @@ is_astray AtClient copied kept b =
 abbrev pub copied_after : (copied : Bool) → Bunch → Bool
 copied_after copied first = if first.opens then true else if first.closes then false else copied
 
+-- whether a copy holds the channel after these payloads
+abbrev pub copied_through : (copied : Bool) → List Raw → Bool
+copied_through copied [] = copied
+copied_through copied (raw ∷ raws) = copied_through (copied_after copied raw.0) raws
+
 -- bunches one after another, where these parts are kept
 abbrev pub raws_of : Side → (copied : Bool) → (kept : List Bunch) → List Bunch → Raws
 raws_of side copied kept [] = record { whole = []; cause = None }
@@ -42,7 +47,8 @@ raws_of side copied kept (b ∷ more) =
     else elim (part_fault kept b b.part) [
       | Some why ↦ record { whole = []; cause = Some (BadPart b.channel why) }
       | None ↦ if ends_payload b
-          then with_raw (first_of before b, joined_bits before b) (raws_of side (copied_after copied (first_of before b)) [] more)
+          then with_raw (first_of before b, joined_bits before b)
+          (raws_of side (copied_after copied (first_of before b)) [] more)
           else raws_of side copied (b ∷ kept) more
     ]
 
