@@ -34,6 +34,7 @@
 
 mod always;
 mod any;
+mod arranged;
 mod cells;
 mod dormant;
 mod grid;
