@@ -23,20 +23,12 @@
 //
 // Want of memory spends a link: from then on each call that may answer `Memory` does.
 //
-// A layer above:
-//
 //     link.begin_tick()?;
-//     for bunch in due {
-//         match link.offer(&Rec::Bunch(bunch)) {
-//             Ok(packet) => carried(bunch, packet),
-//             Err(OfferRefusal::NoRoom) => break,
-//             Err(OfferRefusal::Memory) => return Err(Memory),
-//         }
+//     while let Some(bunch) = due.next() {
+//         carried(bunch, link.offer(&Rec::Bunch(bunch))?);    // up to `NoRoom`
 //     }
-//     for packet in link.end_tick()?.as_slice() {
-//         send(packet.bytes.as_slice());
-//     }
-//     // .. and when a datagram came
+//     send_all(link.end_tick()?);
+//
 //     for entry in link.take(datagram)?.entries.as_slice() {
 //         match entry {
 //             Entry::Moved(moved) => settle(moved.from, moved.to),
