@@ -1,0 +1,4 @@
+pub mod Named
+pub mod Visible
+pub mod Property
+pub mod Looks
