@@ -1,12 +1,17 @@
-// What a link doesn't see: bunches made, calls that wait, payloads handed on, and the end's death.
-ghost use Rattle.std.specs.Prelude.{◌≡◌, ℕ, List, ◌∷◌};
+// What a link doesn't see: bunches made, calls that wait, payloads handed on, and the end's death. And
+// that a bunch has room whatever its number is.
+ghost use Rattle.std.specs.Prelude.{◌≡◌, ◌<◌, ℕ, List, ◌∷◌, true};
+ghost use Rattle.protocol_model.specs.Limits.{sequence_modulus};
+ghost use Rattle.protocol_model.specs.declared.Version.{Version as VersionSpec};
+ghost use Rattle.protocol_model.specs.Packet.{Bunch as BunchSpec, Sends};
 ghost use Rattle.protocol_model.specs.Payload.{Message};
-ghost use Rattle.connection_model.specs.Feed.{End, Past, Deed, Entry, Delivered, Ending};
-ghost use Rattle.connection_model.specs.Pack.{Packing};
+ghost use Rattle.connection_model.specs.Feed.{End, Past, Deed, Item, Ending};
+ghost use Rattle.connection_model.specs.Pack.{Packing, has_room, rec_of};
 ghost use Rattle.link_end.specs.Link.{Link};
 ghost use Rattle.connection_model.specs.Bunches.{after_making};
 ghost use Rattle.link_end.specs.Rests.{Rests};
 ghost use Rattle.link_end.specs.Packs.{Packs};
+ghost use Rattle.link_end.specs.Begun.{IsPackable};
 ghost use Rattle.protocol_model.specs.Side.{Side};
 ghost use Rattle.protocol_model.specs.Value.{Arg};
 ghost use Rattle.connection_model.specs.Past.{sent_bytes};
@@ -60,4 +65,15 @@ pub fn only_ticks_send()
         → sent_bytes end (after_got end past bytes) ≡ sent_bytes end past }
     ensures called { (end : End) (side : Side) (past : Past) (actor number : ℕ) (args : List Arg)
         → sent_bytes end (after_call side past actor number args) ≡ sent_bytes end past }
+{}
+
+/// Whether a bunch has room doesn't depend on its number, so that it can be asked before the bunch
+/// is made.
+pub fn a_number_takes_no_room()
+    ensures packable { (v : VersionSpec) (b : BunchSpec) (number : ℕ) → b.reliable ≡ true
+        → number < sequence_modulus
+        → IsPackable v (Sends b) → IsPackable v (Sends (record b { seq = number })) }
+    ensures room { (end : End) (p : Packing) (one other : Item) (b : BunchSpec) (number : ℕ)
+        → rec_of one ≡ Sends b → rec_of other ≡ Sends (record b { seq = number })
+        → has_room end p one ≡ has_room end p other }
 {}

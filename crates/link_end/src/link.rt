@@ -263,6 +263,14 @@ impl LinkEnd {
         Ok(sent)
     }
 
+    /// Ends the link, as a want of memory does: for a caller that ran out of memory beside it.
+    pub fn spend(&mut self)
+        ensures { IsSpent self.new }
+    {
+        self.spent = true;
+        self.begun = None;
+    }
+
     /// 4,096 packets are open.
     pub fn stalled(&self) -> bool
         ensures { (end : End) (past : Past) → Rests self.now end past
