@@ -67,6 +67,13 @@ impl IncomingChannels {
         self.spent
     }
 
+    /// Ends the value, as a want of memory does: for a caller that ran out of memory beside it.
+    pub fn spend(&mut self)
+        ensures { IsSpent self.new }
+    {
+        self.spent = true;
+    }
+
     /// Takes a bunch: the whole payloads that it hands on, and the rule that it breaks after them.
     /// No bunch broke one before.
     ///
