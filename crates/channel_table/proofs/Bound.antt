@@ -1,248 +1,36 @@
 -- Actors are bound to channels and unbound.
-use Rattle.std.proofs.Common.{◌≡◌, ◌⊎◌, inl, inr, ℕ, ◌<◌, ◌≤◌, ◌==◌, ◌||◌, List, [], ◌∷◌, ◌++◌, length, map, set, Bool, true, false, nat_eq, Option, Some, None, is_some, option_map, if◌then◌else◌, refl, sym, ap, subst, ◌∙◌, arith, ⊎_elim}
-use Rattle.std.specs.List.{find}
-use Rattle.std.specs.Map.{remove_entry, lookup}
-use Rattle.std.proofs.lemmas.Bool.{cases_Bool, cases_eq, cases_lt, false≢true, eq-eqb, ne_eqb, eqb-true}
-use Rattle.std.proofs.lemmas.Bool.Decides.{nat_tests}
+use Rattle.std.proofs.Common.{◌≡◌, inl, inr, ℕ, ◌<◌, ◌≤◌, ◌==◌, List, [], ◌∷◌, length, set, true, false, cond, nat_eq, Option, Some, None, is_some, if◌then◌else◌, refl, sym, ap, ◌∙◌, arith, ⊎_elim}
+use Rattle.std.specs.List.{IsDistinct, AllByRecursion}
+use Rattle.std.specs.Map.{lookup, keys_of}
+use Rattle.std.proofs.lemmas.Bool.{cases_Bool, cases_eq, cases_lt, eq-eqb, ne_eqb, eqb-true}
 use Rattle.std.proofs.lemmas.List.{get_or-set_same, get_or-set_other, get_or_past}
-use Rattle.protocol_model.specs.Search.{is_among}
 use Rattle.reliable_window.specs.Bits.{bit_in}
-use Rattle.connection_laws.proofs.Searches.{among_cons, among_here, among_there}
-use Rattle.channel_laws.proofs.Orders.{find_front, find_back}
-use Rattle.channel_table.specs.Holders.{channel_bound, actor_bound, without_channel, holder_at, actors_of, channels_of, AreApart, IsHeld}
+use Rattle.channel_table.specs.Holders.{Bound, channel_bound, actor_bound, IsPaired, other_than, holder_at, IsHeld}
 
-either : (xs : List (ℕ × ℕ)) (p : ℕ × ℕ → Bool) → (find p xs ≡ None) ⊎ ((b : ℕ × ℕ) × (find p xs ≡ Some b))
-either xs p = go (find p xs) refl
-  where
-    go : (o : Option (ℕ × ℕ)) → find p xs ≡ o → (find p xs ≡ None) ⊎ ((b : ℕ × ℕ) × (find p xs ≡ Some b))
-    go None e = inl e
-    go (Some b) e = inr (b, e)
+-- ---- tests
 
-none_found : {B : Type 0} (f : ℕ × ℕ → B) (o : Option (ℕ × ℕ)) → option_map f o ≡ None → o ≡ None
-none_found f None e = refl
-none_found f (Some b) e = absurd cc
+at_same : {X : Type 0} (i k : ℕ) (x y : X) → i ≡ k → (if i == k then x else y) ≡ x
+at_same i k x y e = rw (eq-eqb i k e) refl
 
--- a channel without a holder isn't among those bound
-pub none_among : (xs : List (ℕ × ℕ)) (ch : ℕ) → actor_bound xs ch ≡ None
-    → is_among ch (channels_of xs) ≡ false
-none_among [] ch e = refl
-none_among (b ∷ xs) ch e = elim (cases_Bool (b.1 == ch)) [
-  | inl t ↦ absurd (let e' = rw t at e in cc)
-  | inr t ↦ (let rest = none_among xs ch (rw t at e) in step b.1 ch (is_among ch (channels_of xs)) t rest)
-]
-  where
-    step : (x n : ℕ) (r : Bool) → (x == n) ≡ false → r ≡ false → ((x == n) || r) ≡ false
-    step x n r t e = rw (t, e) refl
+at_other : {X : Type 0} (i k : ℕ) (x y : X) → (i ≡ k → ⊥) → (if i == k then x else y) ≡ y
+at_other i k x y ne = rw (ne_eqb i k ne) refl
 
-pub none_actor : (xs : List (ℕ × ℕ)) (a : ℕ) → channel_bound xs a ≡ None → is_among a (actors_of xs) ≡ false
-none_actor [] a e = refl
-none_actor (b ∷ xs) a e = elim (cases_Bool (b.0 == a)) [
-  | inl t ↦ absurd (let e' = rw t at e in cc)
-  | inr t ↦ (let rest = none_actor xs a (rw t at e) in step b.0 a (is_among a (actors_of xs)) t rest)
-]
-  where
-    step : (x n : ℕ) (r : Bool) → (x == n) ≡ false → r ≡ false → ((x == n) || r) ≡ false
-    step x n r t e = rw (t, e) refl
+-- a key's test with its sides turned round
+turned : {X : Type 0} (k i : ℕ) (x y : X) → cond (nat_eq k i) x y ≡ (if i == k then x else y)
+turned k i x y = ⊎_elim
+    (λ (e : i ≡ k). (let yes : nat_eq k i ≡ true = eq-eqb k i (sym e) in rw yes (sym (at_same i k x y e))))
+    (λ (ne : i ≡ k → ⊥).
+    (let no : nat_eq k i ≡ false = ne_eqb k i (λ e. ne (sym e)) in rw no (sym (at_other i k x y ne))))
+    (cases_eq i k)
 
--- ---- one more
+some_is : (x y : ℕ) → Some x ≡ Some y → x ≡ y
+some_is x y e = cc
 
-pub actor_same : (xs : List (ℕ × ℕ)) (a ch : ℕ) → actor_bound xs ch ≡ None
-    → actor_bound (xs ++ (a, ch) ∷ []) ch ≡ Some a
-actor_same xs a ch none =
-    ap (option_map (λ (b : ℕ × ℕ). b.0)) (find_back (λ (b : ℕ × ℕ). b.1 == ch) xs ((a, ch) ∷ [])
-    (none_found (λ (b : ℕ × ℕ). b.0) (find (λ (b : ℕ × ℕ). b.1 == ch) xs) none)
-    ∙ ap (λ (t : Bool). if t then Some (a, ch) else None) (eq-eqb ch ch refl))
-
-pub actor_other : (xs : List (ℕ × ℕ)) (a ch c : ℕ) → (c ≡ ch → ⊥)
-    → actor_bound (xs ++ (a, ch) ∷ []) c ≡ actor_bound xs c
-actor_other xs a ch c ne = ap (option_map (λ (b : ℕ × ℕ). b.0)) (elim (either xs (λ (b : ℕ × ℕ). b.1 == c)) [
-  | inl e ↦ find_back (λ (b : ℕ × ℕ). b.1 == c) xs ((a, ch) ∷ []) e
-      ∙ ap (λ (t : Bool). if t then Some (a, ch) else None) (ne_eqb ch c (λ q. ne (sym q))) ∙ sym e
-  | inr e ↦ find_front (λ (b : ℕ × ℕ). b.1 == c) xs ((a, ch) ∷ []) e.0 e.1 ∙ sym e.1
-])
-
-map_more : (f : ℕ × ℕ → ℕ) (xs : List (ℕ × ℕ)) (b : ℕ × ℕ) (n : ℕ) → is_among n (map f (xs ++ b ∷ [])) ≡ true
-    → (is_among n (map f xs) ≡ true) ⊎ (f b ≡ n)
-map_more f [] b n h = elim (among_cons (f b) [] n h) [ inl e ↦ inr e | inr e ↦ inl e ]
-map_more f (x ∷ xs) b n h = elim (among_cons (f x) (map f (xs ++ b ∷ [])) n h) [
-  | inl e ↦ inl (among_here (f x) (map f xs) n e)
-  | inr e ↦ elim (map_more f xs b n e) [ inl q ↦ inl (among_there (f x) (map f xs) n q) | inr q ↦ inr q ]
-]
-
-not_more : (f : ℕ × ℕ → ℕ) (xs : List (ℕ × ℕ)) (b : ℕ × ℕ) (n : ℕ) → is_among n (map f xs) ≡ false
-    → (f b ≡ n → ⊥) → is_among n (map f (xs ++ b ∷ [])) ≡ false
-not_more f xs b n e ne = elim (cases_Bool (is_among n (map f (xs ++ b ∷ [])))) [
-  | inr q ↦ q
-  | inl q ↦ elim (map_more f xs b n q) [ inl r ↦ absurd (false≢true (sym e ∙ r)) | inr r ↦ absurd (ne r) ]
-]
-
-not_first : (x n : ℕ) (ns : List ℕ) → is_among n (x ∷ ns) ≡ false → (n ≡ x → ⊥) × (is_among n ns ≡ false)
-not_first x n ns e = (
-  λ q. false≢true (sym e ∙ among_here x ns n (sym q)),
-  elim (cases_Bool (is_among n ns))
-      [ inl r ↦ absurd (false≢true (sym e ∙ among_there x ns n r)) | inr r ↦ r ],
-)
-
-pub apart_more : (xs : List (ℕ × ℕ)) (b : ℕ × ℕ) → AreApart xs → is_among b.0 (actors_of xs) ≡ false
-    → is_among b.1 (channels_of xs) ≡ false → AreApart (xs ++ b ∷ [])
-apart_more [] b h a c = (refl, refl, tt)
-apart_more (x ∷ xs) b h a c =
-    let na = not_first x.0 b.0 (actors_of xs) a in
-    let nc = not_first x.1 b.1 (channels_of xs) c in (
-      not_more (λ (p : ℕ × ℕ). p.0) xs b x.0 h.0 na.0,
-      not_more (λ (p : ℕ × ℕ). p.1) xs b x.1 h.1 nc.0,
-      apart_more xs b h.2 na.1 nc.1,
-    )
-
--- ---- one less
-
-pub actor_gone : (xs : List (ℕ × ℕ)) (ch : ℕ) → actor_bound (without_channel xs ch) ch ≡ None
-actor_gone [] ch = refl
-actor_gone (b ∷ xs) ch =
-    elim (cases_Bool (b.1 == ch)) [ inl e ↦ rw e (actor_gone xs ch) | inr e ↦ rw (e, e) (actor_gone xs ch) ]
-
-pub actor_left : (xs : List (ℕ × ℕ)) (ch c : ℕ) → (c ≡ ch → ⊥)
-    → actor_bound (without_channel xs ch) c ≡ actor_bound xs c
-actor_left [] ch c ne = refl
-actor_left (b ∷ xs) ch c ne = elim (cases_Bool (b.1 == ch)) [
-  | inl e ↦ (let no : (b.1 == c) ≡ false = ne_eqb b.1 c (λ q. ne (sym q ∙ eqb-true b.1 ch e)) in rw (e, no)
-      (actor_left xs ch c ne))
-  | inr e ↦ rw e (elim (cases_Bool (b.1 == c)) [ inl t ↦ rw t refl | inr t ↦ rw t (actor_left xs ch c ne) ])
-]
-
-among_left : (f : ℕ × ℕ → ℕ) (xs : List (ℕ × ℕ)) (ch n : ℕ)
-    → is_among n (map f (without_channel xs ch)) ≡ true → is_among n (map f xs) ≡ true
-among_left f [] ch n h = h
-among_left f (b ∷ xs) ch n h = elim (cases_Bool (b.1 == ch)) [
-  | inl e ↦ among_there (f b) (map f xs) n (among_left f xs ch n (rw e at h))
-  | inr e ↦ elim (among_cons (f b) (map f (without_channel xs ch)) n (rw e at h)) [
-    | inl q ↦ among_here (f b) (map f xs) n q
-    | inr q ↦ among_there (f b) (map f xs) n (among_left f xs ch n q)
-  ]
-]
-
-not_left : (f : ℕ × ℕ → ℕ) (xs : List (ℕ × ℕ)) (ch n : ℕ) → is_among n (map f xs) ≡ false
-    → is_among n (map f (without_channel xs ch)) ≡ false
-not_left f xs ch n e = elim (cases_Bool (is_among n (map f (without_channel xs ch)))) [
-  | inl q ↦ absurd (false≢true (sym e ∙ among_left f xs ch n q))
-  | inr q ↦ q
-]
-
-pub apart_left : (xs : List (ℕ × ℕ)) (ch : ℕ) → AreApart xs → AreApart (without_channel xs ch)
-apart_left [] ch h = tt
-apart_left (b ∷ xs) ch h = elim (cases_Bool (b.1 == ch)) [
-  | inl e ↦ rw e (apart_left xs ch h.2)
-  | inr e ↦ rw e (
-    not_left (λ (p : ℕ × ℕ). p.0) xs ch b.0 h.0,
-    not_left (λ (p : ℕ × ℕ). p.1) xs ch b.1 h.1,
-    apart_left xs ch h.2,
-  )
-]
-
--- where the channel isn't bound nothing is left out
-pub none_left_out : (xs : List (ℕ × ℕ)) (ch : ℕ) → is_among ch (channels_of xs) ≡ false
-    → without_channel xs ch ≡ xs
-none_left_out [] ch e = refl
-none_left_out (b ∷ xs) ch e =
-    let n = not_first b.1 ch (channels_of xs) e in
-    let no : (b.1 == ch) ≡ false = ne_eqb b.1 ch (λ q. n.0 (sym q)) in
-    rw no (ap (λ ys. b ∷ ys) (none_left_out xs ch n.1))
-
-bound_among : (xs : List (ℕ × ℕ)) (a ch : ℕ) → actor_bound xs ch ≡ Some a → is_among a (actors_of xs) ≡ true
-bound_among [] a ch e = absurd cc
-bound_among (b ∷ xs) a ch e = elim (cases_Bool (b.1 == ch)) [
-  | inl t ↦ (let e' = rw t at e in among_here b.0 (actors_of xs) a (some_is b.0 a e'))
-  | inr t ↦ among_there b.0 (actors_of xs) a (bound_among xs a ch (rw t at e))
-]
-  where
-    some_is : (x y : ℕ) → Some x ≡ Some y → x ≡ y
-    some_is x y e = cc
-
--- to take the holder out is to take the channel out
-pub removed_is : (xs : List (ℕ × ℕ)) (a ch : ℕ) → AreApart xs → actor_bound xs ch ≡ Some a
-    → remove_entry (nat_eq a) xs ≡ without_channel xs ch
-removed_is [] a ch h e = absurd cc
-removed_is (b ∷ xs) a ch h e = elim (cases_Bool (b.1 == ch)) [
-  | inl t ↦ (
-      let e' = rw t at e in
-      let is : b.0 ≡ a = some_is b.0 a e' in
-      let yes : nat_eq a b.0 ≡ true = eq-eqb a b.0 (sym is) in
-      rw (t, yes) (sym (none_left_out xs ch
-      (subst (λ (c : ℕ). is_among c (channels_of xs) ≡ false) (eqb-true b.1 ch t) h.1))))
-  | inr t ↦ (
-      let e' : actor_bound xs ch ≡ Some a = rw t at e in
-      let no : nat_eq a b.0 ≡ false = ne_eqb a b.0
-      (λ q. false≢true (sym h.0 ∙ ap (λ n. is_among n (actors_of xs)) (sym q) ∙ bound_among xs a ch e')) in
-      rw (t, no) (ap (λ ys. b ∷ ys) (removed_is xs a ch h.2 e')))
-]
-  where
-    some_is : (x y : ℕ) → Some x ≡ Some y → x ≡ y
-    some_is x y e = cc
-
--- ---- what is kept beside
-
-pub holds_new : (used : List ℕ) → ((i : ℕ) → bit_in used i ≡ 0) → IsHeld [] [] used
-holds_new used none = record { apart = tt; at = λ ch. refl; marked = λ ch low. none ch; most = λ ch high. refl }
-
-bit_as : (i ch x y z : ℕ) → i ≡ ch → x ≡ (if i == ch then y else z) → x ≡ y
-bit_as i ch x y z e h = grind (arith, nat_tests)
-
-bit_else : (i ch x y z : ℕ) → (i ≡ ch → ⊥) → x ≡ (if i == ch then y else z) → x ≡ z
-bit_else i ch x y z ne h = grind (arith, nat_tests)
-
-pub holds_more : (xs : List (ℕ × ℕ)) (holders grown : List (Option ℕ)) (used new : List ℕ) (a ch : ℕ)
-    → IsHeld xs holders used
-    → ((c : ℕ) → holder_at grown c ≡ holder_at holders c) → ch < length grown → ch < 32768
-    → actor_bound xs ch ≡ None → channel_bound xs a ≡ None
-    → ((i : ℕ) → i < 32768 → bit_in new i ≡ (if i == ch then 1 else bit_in used i))
-    → IsHeld (xs ++ (a, ch) ∷ []) (set grown ch (Some a)) new
-holds_more xs holders grown used new a ch h same within low none free bits = record {
-  apart = apart_more xs (a, ch) h.apart (none_actor xs a free) (none_among xs ch none);
-  at = λ c. ⊎_elim
-      (λ (q : c ≡ ch). rw q (get_or-set_same grown ch (Some a) None within ∙ sym (actor_same xs a ch none)))
-      (λ (ne : c ≡ ch → ⊥). get_or-set_other grown ch c (Some a) None ne ∙ same c ∙ h.at c ∙ sym
-      (actor_other xs a ch c ne))
-      (cases_eq c ch);
-  marked = λ c l. ⊎_elim
-      (λ (q : c ≡ ch). bit_as c ch _ _ _ q (bits c l) ∙ ap (λ o. if is_some o then 1 else 0)
-      (sym (ap (actor_bound (xs ++ (a, ch) ∷ [])) q ∙ actor_same xs a ch none)))
-      (λ (ne : c ≡ ch → ⊥). bit_else c ch _ _ _ ne (bits c l) ∙ h.marked c l ∙ ap
-      (λ o. if is_some o then 1 else 0) (sym (actor_other xs a ch c ne)))
-      (cases_eq c ch);
-  most = λ c high. actor_other xs a ch c (λ q. absurd (omega arith)) ∙ h.most c high;
-}
-
-pub holds_left : (xs : List (ℕ × ℕ)) (holders : List (Option ℕ)) (used new : List ℕ) (ch : ℕ)
-    → IsHeld xs holders used → ch < length holders
-    → ((i : ℕ) → i < 32768 → bit_in new i ≡ (if i == ch then 0 else bit_in used i))
-    → IsHeld (without_channel xs ch) (set holders ch None) new
-holds_left xs holders used new ch h within bits = record {
-  apart = apart_left xs ch h.apart;
-  at = λ c. ⊎_elim
-      (λ (q : c ≡ ch). rw q (get_or-set_same holders ch None None within ∙ sym (actor_gone xs ch)))
-      (λ (ne : c ≡ ch → ⊥). get_or-set_other holders ch c None None ne ∙ h.at c ∙ sym (actor_left xs ch c ne))
-      (cases_eq c ch);
-  marked = λ c l. ⊎_elim
-      (λ (q : c ≡ ch). bit_as c ch _ _ _ q (bits c l) ∙ ap (λ o. if is_some o then 1 else 0)
-      (sym (ap (actor_bound (without_channel xs ch)) q ∙ actor_gone xs ch)))
-      (λ (ne : c ≡ ch → ⊥). bit_else c ch _ _ _ ne (bits c l) ∙ h.marked c l ∙ ap
-      (λ o. if is_some o then 1 else 0) (sym (actor_left xs ch c ne)))
-      (cases_eq c ch);
-  most = λ c high. ⊎_elim
-      (λ (q : c ≡ ch). ap (actor_bound (without_channel xs ch)) q ∙ actor_gone xs ch)
-      (λ (ne : c ≡ ch → ⊥). actor_left xs ch c ne ∙ h.most c high)
-      (cases_eq c ch);
-}
-
--- an actor that holds a channel stands at its place
-pub held_within : (holders : List (Option ℕ)) (ch a : ℕ) → holder_at holders ch ≡ Some a → ch < length holders
-held_within holders ch a e = ⊎_elim
-    (λ (low : ch < length holders). low)
-    (λ (high : length holders ≤ ch). absurd (let none = get_or_past holders ch None high in cc (none, e)))
-    (cases_lt ch (length holders))
+not_none : {A : Type 0} (o : Option ℕ) (x : ℕ) → o ≡ None → o ≡ Some x → A
+not_none o x e f = absurd cc
 
 -- a look-up by actor
-pub looked_up : (xs : List (ℕ × ℕ)) (a : ℕ) → lookup (nat_eq a) xs ≡ channel_bound xs a
+pub looked_up : (xs : Bound) (a : ℕ) → lookup (nat_eq a) xs ≡ channel_bound xs a
 looked_up [] a = refl
 looked_up (b ∷ xs) a = ⊎_elim
     (λ (q : b.0 ≡ a). (let l : nat_eq a b.0 ≡ true = eq-eqb a b.0 (sym q) in let r : (b.0 == a) ≡ true =
@@ -250,3 +38,221 @@ looked_up (b ∷ xs) a = ⊎_elim
     (λ (ne : b.0 ≡ a → ⊥). (let l : nat_eq a b.0 ≡ false = ne_eqb a b.0 (λ q. ne (sym q)) in let r :
     (b.0 == a) ≡ false = ne_eqb b.0 a ne in rw (l, r) (looked_up xs a)))
     (cases_eq b.0 a)
+
+-- after an actor's entry is set or taken out
+pub read_channels : (xs ys : Bound) (a : ℕ) (o : Option ℕ)
+    → ((q : ℕ) → lookup (nat_eq q) ys ≡ cond (nat_eq a q) o (lookup (nat_eq q) xs)) → (q : ℕ)
+    → channel_bound ys q ≡ (if q == a then o else channel_bound xs q)
+read_channels xs ys a o h q =
+    sym (looked_up ys q) ∙ h q ∙ turned a q o (lookup (nat_eq q) xs)
+    ∙ ap (λ (held : Option ℕ). if q == a then o else held) (looked_up xs q)
+
+-- ---- one look-up says what the other one does, where no actor stands twice
+
+-- an actor whose channel is found isn't one that stands nowhere
+found_apart : (k : ℕ) (xs : Bound) (q c : ℕ) → AllByRecursion (λ y. nat_eq k y ≡ false) (keys_of xs)
+    → channel_bound xs q ≡ Some c → nat_eq k q ≡ false
+found_apart k [] q c all e = not_none None c refl e
+found_apart k (b ∷ xs) q c all e = elim (cases_Bool (b.0 == q)) [
+  | inl t ↦ ap (nat_eq k) (sym (eqb-true b.0 q t)) ∙ all.0
+  | inr t ↦ found_apart k xs q c all.1 (rw t at e)
+]
+
+-- the channel of the actor that is found by a channel
+found_back : (xs : Bound) (q c : ℕ) → IsDistinct nat_eq (keys_of xs) → actor_bound xs c ≡ Some q
+    → channel_bound xs q ≡ Some c
+unfolding IsDistinct
+found_back [] q c once e = not_none None q refl e
+found_back (b ∷ xs) q c once e = elim (cases_Bool (b.1 == c)) [
+  | inl t ↦ (
+      let is : b.0 ≡ q = some_is b.0 q (rw t at e) in
+      let yes : (b.0 == q) ≡ true = eq-eqb b.0 q is in
+      rw yes (ap Some (eqb-true b.1 c t)))
+  | inr t ↦ (
+      let held : channel_bound xs q ≡ Some c = found_back xs q c once.1 (rw t at e) in
+      let no : (b.0 == q) ≡ false = found_apart b.0 xs q c once.0 held in
+      rw no held)
+]
+
+-- a channel that an actor has is found
+found_there : {A : Type 0} (xs : Bound) (q c : ℕ) → channel_bound xs q ≡ Some c → actor_bound xs c ≡ None → A
+found_there [] q c e none = not_none None c refl e
+found_there (b ∷ xs) q c e none = elim (cases_Bool (b.1 == c)) [
+  | inl t ↦ absurd (let never = rw t at none in cc)
+  | inr t ↦ elim (cases_Bool (b.0 == q)) [
+    | inl s ↦ (let is : b.1 ≡ c = some_is b.1 c (rw s at e) in
+        absurd (let no = sym t ∙ eq-eqb b.1 c is in cc))
+    | inr s ↦ found_there xs q c (rw s at e) (rw t at none)
+  ]
+]
+
+-- pairs are read by channel as `o` says
+pub record IsRead (xs : Bound) (o : ℕ → Option ℕ) : Type 0 where
+  pub forth : (q c : ℕ) → channel_bound xs q ≡ Some c → o c ≡ Some q
+  pub back : (q c : ℕ) → o c ≡ Some q → channel_bound xs q ≡ Some c
+
+pub read_actor : (xs : Bound) (o : ℕ → Option ℕ) → IsDistinct nat_eq (keys_of xs) → IsRead xs o → (c : ℕ)
+    → actor_bound xs c ≡ o c
+read_actor xs o once h c = by (actor_bound xs c) (o c) refl refl
+  where
+    by : (x y : Option ℕ) → actor_bound xs c ≡ x → o c ≡ y → x ≡ y
+    by (Some q) y e f = sym (h.forth q c (found_back xs q c once e)) ∙ f
+    by None None e f = refl
+    by None (Some q) e f = found_there xs q c (h.back q c f) e
+
+pub read_paired : (xs : Bound) (o : ℕ → Option ℕ) → IsDistinct nat_eq (keys_of xs) → IsRead xs o → IsPaired xs
+read_paired xs o once h = record {
+  forth = λ q c e. read_actor xs o once h c ∙ h.forth q c e;
+  back = λ q c e. found_back xs q c once e;
+}
+
+-- ---- one more
+
+-- the actors by channel, with one more
+abbrev pub actors_with : Bound → (a ch : ℕ) → ℕ → Option ℕ
+actors_with xs a ch c = if c == ch then Some a else actor_bound xs c
+
+pub read_more : (xs ys : Bound) (a ch : ℕ) → IsPaired xs → actor_bound xs ch ≡ None → channel_bound xs a ≡ None
+    → ((q : ℕ) → channel_bound ys q ≡ (if q == a then Some ch else channel_bound xs q))
+    → IsRead ys (actors_with xs a ch)
+read_more xs ys a ch h none free channels = record {
+  forth = λ q c e. ⊎_elim
+      (λ (is : q ≡ a).
+      (let so : c ≡ ch = some_is c ch (sym e ∙ channels q ∙ at_same q a _ _ is) in
+      at_same c ch _ _ so ∙ ap Some (sym is)))
+      (λ (ne : q ≡ a → ⊥).
+      (let held : actor_bound xs c ≡ Some q = h.forth q c (sym (at_other q a _ _ ne) ∙ sym (channels q) ∙ e) in
+      at_other c ch _ _ (λ (so : c ≡ ch). not_none (actor_bound xs ch) q none
+      (ap (actor_bound xs) (sym so) ∙ held)) ∙ held))
+      (cases_eq q a);
+  back = λ q c e. ⊎_elim
+      (λ (is : c ≡ ch).
+      (let so : q ≡ a = some_is q a (sym e ∙ at_same c ch _ _ is) in
+      channels q ∙ at_same q a _ _ so ∙ ap Some (sym is)))
+      (λ (ne : c ≡ ch → ⊥).
+      (let held : channel_bound xs q ≡ Some c = h.back q c (sym (at_other c ch _ _ ne) ∙ e) in
+      channels q ∙ at_other q a _ _ (λ (so : q ≡ a). not_none (channel_bound xs a) c free
+      (ap (channel_bound xs) (sym so) ∙ held)) ∙ held))
+      (cases_eq c ch);
+}
+
+-- ---- one less
+
+-- the actors by channel, without one
+abbrev pub actors_without : Bound → (ch : ℕ) → ℕ → Option ℕ
+actors_without xs ch c = if c == ch then None else actor_bound xs c
+
+other_self : (ch : ℕ) (o : Option ℕ) → o ≡ Some ch → other_than ch o ≡ None
+other_self ch None e = refl
+other_self ch (Some c) e = at_same c ch _ _ (some_is c ch e)
+
+other_kept : (ch : ℕ) (o : Option ℕ) → (o ≡ Some ch → ⊥) → other_than ch o ≡ o
+other_kept ch None ne = refl
+other_kept ch (Some c) ne = at_other c ch _ _ (λ e. ne (ap Some e))
+
+-- the channel's actor goes
+pub without_holder : (xs : Bound) (a ch q : ℕ) → IsPaired xs → actor_bound xs ch ≡ Some a
+    → (if q == a then None else channel_bound xs q) ≡ other_than ch (channel_bound xs q)
+without_holder xs a ch q h held = ⊎_elim
+    (λ (is : q ≡ a). at_same q a _ _ is ∙ sym (other_self ch (channel_bound xs q)
+    (ap (channel_bound xs) is ∙ h.back a ch held)))
+    (λ (ne : q ≡ a → ⊥). at_other q a _ _ ne ∙ sym (other_kept ch (channel_bound xs q)
+    (λ f. ne (some_is q a (sym (h.forth q ch f) ∙ held)))))
+    (cases_eq q a)
+
+pub read_less : (xs ys : Bound) (a ch : ℕ) → IsPaired xs → actor_bound xs ch ≡ Some a
+    → ((q : ℕ) → channel_bound ys q ≡ (if q == a then None else channel_bound xs q))
+    → IsRead ys (actors_without xs ch)
+read_less xs ys a ch h held channels = record {
+  forth = λ q c e. ⊎_elim
+      (λ (is : q ≡ a). not_none (channel_bound ys q) c (channels q ∙ at_same q a _ _ is) e)
+      (λ (ne : q ≡ a → ⊥).
+      (let was : actor_bound xs c ≡ Some q = h.forth q c (sym (at_other q a _ _ ne) ∙ sym (channels q) ∙ e) in
+      at_other c ch _ _ (λ (so : c ≡ ch). ne (some_is q a
+      (sym was ∙ ap (actor_bound xs) so ∙ held))) ∙ was))
+      (cases_eq q a);
+  back = λ q c e. ⊎_elim
+      (λ (is : c ≡ ch). not_none (actors_without xs ch c) q (at_same c ch _ _ is) e)
+      (λ (ne : c ≡ ch → ⊥).
+      (let was : channel_bound xs q ≡ Some c = h.back q c (sym (at_other c ch _ _ ne) ∙ e) in
+      channels q ∙ at_other q a _ _ (λ (so : q ≡ a). ne (some_is c ch
+      (sym was ∙ ap (channel_bound xs) so ∙ h.back a ch held))) ∙ was))
+      (cases_eq c ch);
+}
+
+-- a channel that nobody holds leaves all as it is
+pub none_goes : (xs : Bound) (ch q : ℕ) → IsPaired xs → actor_bound xs ch ≡ None
+    → channel_bound xs q ≡ other_than ch (channel_bound xs q)
+none_goes xs ch q h none =
+    sym (other_kept ch (channel_bound xs q) (λ f. not_none (actor_bound xs ch) q none (h.forth q ch f)))
+
+pub none_read : (xs : Bound) (ch c : ℕ) → actor_bound xs ch ≡ None → actor_bound xs c ≡ actors_without xs ch c
+none_read xs ch c none = ⊎_elim
+    (λ (is : c ≡ ch). ap (actor_bound xs) is ∙ none ∙ sym (at_same c ch None (actor_bound xs c) is))
+    (λ (ne : c ≡ ch → ⊥). sym (at_other c ch None (actor_bound xs c) ne))
+    (cases_eq c ch)
+
+-- ---- what is kept beside
+
+-- one place gets another holder, and all others keep theirs
+set_at : (holders : List (Option ℕ)) (ch c : ℕ) (o : Option ℕ) → ch < length holders
+    → holder_at (set holders ch o) c ≡ (if c == ch then o else holder_at holders c)
+set_at holders ch c o within = ⊎_elim
+    (λ (is : c ≡ ch). ap (holder_at (set holders ch o)) is ∙ get_or-set_same holders ch o None within
+    ∙ sym (at_same c ch o (holder_at holders c) is))
+    (λ (ne : c ≡ ch → ⊥). get_or-set_other holders ch c o None ne ∙ sym (at_other c ch o (holder_at holders c) ne))
+    (cases_eq c ch)
+
+-- a bit is set or cleared where a channel gets another holder
+bit_at : (c ch b used : ℕ) (o : Option ℕ) (held : Option ℕ) → used ≡ (if is_some held then 1 else 0)
+    → b ≡ (if is_some o then 1 else 0)
+    → (if c == ch then b else used) ≡ (if is_some (if c == ch then o else held) then 1 else 0)
+bit_at c ch b used o held was is = ⊎_elim
+    (λ (q : c ≡ ch). (let yes : (c == ch) ≡ true = eq-eqb c ch q in rw yes is))
+    (λ (ne : c ≡ ch → ⊥). (let no : (c == ch) ≡ false = ne_eqb c ch ne in rw no was))
+    (cases_eq c ch)
+
+-- all that is kept goes on to hold where one channel gets another holder, or none
+pub holds : (xs ys : Bound) (holders grown : List (Option ℕ)) (used later : List ℕ) (ch b : ℕ) (o : Option ℕ)
+    → IsHeld xs holders used → IsDistinct nat_eq (keys_of ys)
+    → IsRead ys (λ c. if c == ch then o else actor_bound xs c)
+    → ((c : ℕ) → holder_at grown c ≡ holder_at holders c) → ch < length grown → ch < 32768
+    → b ≡ (if is_some o then 1 else 0)
+    → ((i : ℕ) → bit_in later i ≡ (if i == ch then b else bit_in used i))
+    → IsHeld ys (set grown ch o) later
+holds xs ys holders grown used later ch b o h once read same within low is bits =
+    let now : (c : ℕ) → actor_bound ys c ≡ (if c == ch then o else actor_bound xs c) = read_actor ys _ once read in
+    record {
+      paired = read_paired ys _ once read;
+      at = λ c. set_at grown ch c o within
+          ∙ ap (λ (x : Option ℕ). if c == ch then o else x) (same c ∙ h.at c) ∙ sym (now c);
+      marked = λ c l. bits c ∙ bit_at c ch b (bit_in used c) o (actor_bound xs c) (h.marked c l) is
+          ∙ ap (λ (x : Option ℕ). if is_some x then 1 else 0) (sym (now c));
+      most = λ c high. now c ∙ at_other c ch o (actor_bound xs c) (λ (q : c ≡ ch). absurd (omega (arith, q, high, low)))
+          ∙ h.most c high;
+    }
+
+pub none_paired : IsPaired []
+none_paired = record { forth = λ a ch e. not_none None ch refl e; back = λ a ch e. not_none None a refl e }
+
+pub holds_new : (used : List ℕ) → ((i : ℕ) → bit_in used i ≡ 0) → IsHeld [] [] used
+holds_new used none = record {
+  paired = none_paired;
+  at = λ ch. refl;
+  marked = λ ch low. none ch;
+  most = λ ch high. refl;
+}
+
+-- an actor that holds a channel stands at its place
+pub held_within : (holders : List (Option ℕ)) (ch a : ℕ) → holder_at holders ch ≡ Some a → ch < length holders
+held_within holders ch a e = ⊎_elim
+    (λ (low : ch < length holders). low)
+    (λ (high : length holders ≤ ch). not_none (holder_at holders ch) a (get_or_past holders ch None high) e)
+    (cases_lt ch (length holders))
+
+pub held_low : (xs : Bound) (holders : List (Option ℕ)) (used : List ℕ) (ch a : ℕ) → IsHeld xs holders used
+    → actor_bound xs ch ≡ Some a → ch < 32768
+held_low xs holders used ch a h e = ⊎_elim
+    (λ (low : ch < 32768). low)
+    (λ (high : 32768 ≤ ch). not_none (actor_bound xs ch) a (h.most ch high) e)
+    (cases_lt ch 32768)

@@ -1,5 +1,5 @@
 -- How all that the channels keep follows from what the end did, between two calls from above.
-use Rattle.std.specs.Prelude.{◌≡◌, ℕ, map, Option, Some}
+use Rattle.std.specs.Prelude.{◌≡◌, ℕ, map, Option}
 use Rattle.protocol_model.specs.Side.{Side, AtServer, AtClient}
 use Rattle.protocol_model.specs.Payload.{Message, Calls, actor_of, message_bits}
 use Rattle.connection_model.specs.Feed.{Past}
@@ -8,7 +8,7 @@ use Rattle.connection_model.specs.Copies.{copy_channel}
 use Rattle.connection_model.specs.CallAnswers.{waiting_of}
 use Rattle.channel_table.specs.Channels.{Channels, WaitingCall}
 use Rattle.channel_table.specs.Keeps.{Keeps}
-pub use Rattle.channel_table.specs.Holders.{channel_bound, actor_bound, without_channel}
+pub use Rattle.channel_table.specs.Holders.{channel_bound, actor_bound, IsPaired}
 
 -- the channel that the actor holds: by its state at the server, by its copy at the client
 abbrev pub held_channel : Side → Past → (actor : ℕ) → Option ℕ
@@ -28,6 +28,5 @@ waiting_call message = record { actor = actor_of message; call = call_number mes
 pub record Stands (t : Channels) (side : Side) (past : Past) : Type 0 where
   pub bunches : Keeps t side past
   pub bound : (a : ℕ) → channel_bound t.bound a ≡ held_channel side past a
-  pub apart : (ch : ℕ) (a b : ℕ) → held_channel side past a ≡ Some ch → held_channel side past b ≡ Some ch
-      → a ≡ b
+  pub paired : IsPaired t.bound
   pub waiting : t.waiting ≡ map waiting_call (waiting_of past)

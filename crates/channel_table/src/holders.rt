@@ -1,8 +1,8 @@
 // Which actor holds which channel.
-ghost use Rattle.std.specs.Prelude.{◌≡◌, ◌≢◌, ◌+◌, ◌<◌, ◌≤◌, ◌∷◌, ◌++◌, [], ℕ, None, IfOk, OnOk, OnErr, length, if◌then◌else◌, is_some, nat_eq};
+ghost use Rattle.std.specs.Prelude.{◌≡◌, ◌<◌, ◌≤◌, ◌==◌, [], ℕ, None, Some, IfOk, OnOk, OnErr, length, if◌then◌else◌, is_some};
 ghost use Rattle.protocol_model.specs.Limits.{channels_two};
 ghost use Rattle.reliable_window.specs.Bits.{bit_in};
-ghost use Rattle.channel_table.specs.Holders.{channel_bound, actor_bound, without_channel, holder_at};
+ghost use Rattle.channel_table.specs.Holders.{channel_bound, actor_bound, IsPaired, other_than, holder_at};
 
 use bit_io::Memory;
 use indexmap::IndexMap;
@@ -11,8 +11,7 @@ use outgoing_channels::IndexSet;
 use std::alloc::Global;
 use std::marker::Model;
 
-/// The actors that hold a channel, in the order in which they were bound, seen as pairs of an actor
-/// and its channel.
+/// The actors that hold a channel, seen as pairs of an actor and its channel.
 #[derive(Drop)]
 pub(crate) struct Holders {
     by_actor: IndexMap<u32, u16>,
@@ -21,10 +20,9 @@ pub(crate) struct Holders {
 }
 
 impl Model for Holders {
-    ghost use Rattle.std.specs.Prelude.{ℕ, List};
-    ghost use Rattle.channel_table.specs.Holders.{IsHeld};
+    ghost use Rattle.channel_table.specs.Holders.{Bound, IsHeld};
 
-    ghost Value = { List (ℕ × ℕ) };
+    ghost Value = { Bound };
 
     ghost view = { λ h. h.by_actor.entries };
 
@@ -49,7 +47,11 @@ impl Holders {
         requires most { channel < channels_two }
         requires channel_free { actor_bound self.old channel ≡ None }
         requires actor_free { channel_bound self.old actor ≡ None }
-        ensures bound { OnOk result (self.new ≡ self.old ++ (actor, channel) ∷ []) }
+        ensures channels { OnOk result ((a : ℕ) → channel_bound self.new a
+            ≡ (if a == actor then Some channel else channel_bound self.old a)) }
+        ensures actors { OnOk result ((ch : ℕ) → actor_bound self.new ch
+            ≡ (if ch == channel then Some actor else actor_bound self.old ch)) }
+        ensures pairs { IsPaired self.new }
         ensures err { OnErr result (self.new ≡ self.old) }
     {
         let place = channel as usize;
@@ -62,11 +64,15 @@ impl Holders {
 
     /// The channel is bound to nothing.
     pub fn unbind(&mut self, channel: u16)
-        ensures { self.new ≡ without_channel self.old channel }
+        ensures channels { (a : ℕ) → channel_bound self.new a
+            ≡ other_than channel (channel_bound self.old a) }
+        ensures actors { (ch : ℕ) → actor_bound self.new ch
+            ≡ (if ch == channel then None else actor_bound self.old ch) }
+        ensures pairs { IsPaired self.new }
     {
         let place = channel as usize;
         if let Some(actor) = holder(&self.by_channel, place) {
-            self.by_actor.shift_remove(&actor);
+            self.by_actor.swap_remove(&actor);
             self.by_channel[place] = None;
             self.used.put(place, false);
         }

@@ -1,5 +1,5 @@
 // The channels of one end.
-ghost use Rattle.std.specs.Prelude.{◌≡◌, ◌≢◌, ◌⊎◌, ◌+◌, ◌<◌, ◌≤◌, ◌^◌, ◌∷◌, ◌++◌, [], ℕ, List, nat_lt, length, true, false, None, Some, option_map, slice_get, IfOk, OnOk, OnErr, IsErr};
+ghost use Rattle.std.specs.Prelude.{◌≡◌, ◌≢◌, ◌⊎◌, ◌+◌, ◌<◌, ◌≤◌, ◌==◌, ◌^◌, ◌∷◌, ◌++◌, [], ℕ, List, nat_lt, length, true, false, None, Some, option_map, slice_get, if◌then◌else◌, IfOk, OnOk, OnErr, IsErr};
 ghost use Rattle.protocol_model.specs.Limits.{channels_two, payload_bits, part_bits, waiting_limit};
 ghost use Rattle.protocol_model.specs.Side.{Side, AtServer, AtClient};
 ghost use Rattle.protocol_model.specs.Packet.{Bunch as BunchSpec};
@@ -12,7 +12,7 @@ ghost use Rattle.channel_laws.specs.Due.{next_due};
 ghost use Rattle.channel_laws.specs.Sendings.{are_sendings};
 ghost use Rattle.outgoing_channels.specs.Keeps.{kept_bunch};
 ghost use Rattle.outgoing_channels.specs.Made.{IsMarked};
-ghost use Rattle.channel_table.specs.Holders.{channel_bound, actor_bound, without_channel};
+ghost use Rattle.channel_table.specs.Holders.{channel_bound, actor_bound, IsPaired, other_than};
 ghost use Rattle.channel_table.specs.Keeps.{Keeps, IsSpent};
 ghost use Rattle.channel_table.specs.Stands.{Stands};
 ghost use Rattle.receiving_laws.specs.Receiving.{raws_heard};
@@ -73,6 +73,13 @@ impl ChannelTable {
             holders,
             calls: Vec::new(alloc),
         })
+    }
+
+    /// Ends the table, as a want of memory does: for a caller that ran out of memory beside it.
+    pub fn spend(&mut self)
+        ensures { IsSpent self.new }
+    {
+        self.incoming.spend();
     }
 
     // ---- what is made
@@ -189,8 +196,12 @@ impl ChannelTable {
         requires most { channel < channels_two }
         requires channel_free { IsSpent self.old ⊎ (actor_bound self.old.bound channel ≡ None) }
         requires actor_free { IsSpent self.old ⊎ (channel_bound self.old.bound actor ≡ None) }
-        ensures bound { OnOk result (self.new
-            ≡ record self.old { bound = self.old.bound ++ (actor, channel) ∷ [] }) }
+        ensures channels { OnOk result ((a : ℕ) → channel_bound self.new.bound a
+            ≡ (if a == actor then Some channel else channel_bound self.old.bound a)) }
+        ensures actors { OnOk result ((ch : ℕ) → actor_bound self.new.bound ch
+            ≡ (if ch == channel then Some actor else actor_bound self.old.bound ch)) }
+        ensures pairs { OnOk result (IsPaired self.new.bound) }
+        ensures rest { OnOk result (self.new ≡ record self.old { bound = self.new.bound }) }
         ensures err { OnErr result (self.new ≡ self.old) }
         ensures after { IsSpent self.old → IsErr result }
     {
@@ -202,7 +213,12 @@ impl ChannelTable {
 
     /// The channel is bound to nothing.
     pub fn unbind(&mut self, channel: u16)
-        ensures { self.new ≡ record self.old { bound = without_channel self.old.bound channel } }
+        ensures channels { (a : ℕ) → channel_bound self.new.bound a
+            ≡ other_than channel (channel_bound self.old.bound a) }
+        ensures actors { (ch : ℕ) → actor_bound self.new.bound ch
+            ≡ (if ch == channel then None else actor_bound self.old.bound ch) }
+        ensures pairs { IsPaired self.new.bound }
+        ensures rest { self.new ≡ record self.old { bound = self.new.bound } }
     {
         self.holders.unbind(channel);
     }

@@ -68,6 +68,26 @@ fn a_bound_index_is_not_free(rt: HostRuntime) -> Result<(), Fail> {
     Ok(())
 }
 
+#[test]
+fn a_channel_that_is_given_up_leaves_the_others_bound(rt: HostRuntime) -> Result<(), Fail> {
+    let mut table = ChannelTable::new(rt.alloc(), true)?;
+    for channel in 1..5u16 {
+        table.bind(channel, Guid(10 + channel as u32))?;
+    }
+    table.unbind(2);
+    table.bind(2, Guid(20))?;
+    table.unbind(1);
+    for (channel, actor) in [(2, 20), (3, 13), (4, 14)] {
+        assert!(rt; table.actor_at(channel) == Some(Guid(actor)));
+        assert!(rt; table.channel_of(Guid(actor)) == Some(channel));
+    }
+    for actor in [11, 12] {
+        assert!(rt; table.channel_of(Guid(actor)).is_none());
+    }
+    assert!(rt; table.free_index() == 1);
+    Ok(())
+}
+
 /// Queues a call without bits for actor 2.
 fn queue_one(table: &mut ChannelTable, alloc: Global, call: u16) -> Result<bool, Memory> {
     let payload = no_bits(alloc)?;
