@@ -1,5 +1,6 @@
 // Channels of a server and of a client as their layers above use them.
-ghost use Rattle.std.specs.Prelude.{◌≡◌, ◌∷◌, [], true, IfOk};
+ghost use Rattle.std.specs.Prelude.{◌≡◌, ◌<◌, ◌≤◌, ◌∷◌, [], true, IfOk};
+ghost use Rattle.protocol_model.specs.Limits.{channels_two};
 ghost use Rattle.protocol_model.specs.Side.{AtServer};
 ghost use Rattle.protocol_model.specs.Payload.{Message};
 ghost use Rattle.connection_model.specs.Feed.{Deed};
@@ -68,14 +69,26 @@ fn a_bound_index_is_not_free(rt: HostRuntime) -> Result<(), Fail> {
     Ok(())
 }
 
+/// Binds a channel to an actor where both are free.
+fn bind_free(table: &mut ChannelTable, channel: u16, actor: Guid) -> Result<bool, Memory>
+    requires index { 1 ≤ channel }
+    requires most { channel < channels_two }
+{
+    if table.actor_at(channel).is_none() && table.channel_of(actor).is_none() {
+        table.bind(channel, actor)?;
+        return Ok(true);
+    }
+    Ok(false)
+}
+
 #[test]
 fn a_channel_that_is_given_up_leaves_the_others_bound(rt: HostRuntime) -> Result<(), Fail> {
     let mut table = ChannelTable::new(rt.alloc(), true)?;
-    for channel in 1..5u16 {
-        table.bind(channel, Guid(10 + channel as u32))?;
+    for (channel, actor) in [(1, 11), (2, 12), (3, 13), (4, 14)] {
+        assert!(rt; bind_free(&mut table, channel, Guid(actor))?);
     }
     table.unbind(2);
-    table.bind(2, Guid(20))?;
+    assert!(rt; bind_free(&mut table, 2, Guid(20))?);
     table.unbind(1);
     for (channel, actor) in [(2, 20), (3, 13), (4, 14)] {
         assert!(rt; table.actor_at(channel) == Some(Guid(actor)));
