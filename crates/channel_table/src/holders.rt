@@ -62,7 +62,7 @@ impl Holders {
         Ok(())
     }
 
-    /// The channel is bound to nothing.
+    /// The channel is bound to nothing any more, nor its actor.
     pub fn unbind(&mut self, channel: u16)
         ensures channels { (a : ℕ) → channel_bound self.new a
             ≡ other_than channel (channel_bound self.old a) }

@@ -33,8 +33,8 @@ pub fn unseen_by_the_table()
         → Keeps t side past → Keeps t side (Deed.Took number [] [] ∷ past) }
 {}
 
-/// The table is right about each past in which the same bunches were made, carried and received, the
-/// same packets moved, and the same payloads were handed on.
+/// The table is right about each past in which the same bunches were made, carried and received,
+/// the same packets moved, and the same payloads were handed on.
 pub fn alike_is_unseen()
     ensures { (t : Channels) (side : Side) (past later : Past)
         → Alike past later → SameHeard past later

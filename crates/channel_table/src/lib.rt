@@ -15,11 +15,12 @@
 //         }
 //     }
 //
-// It stands on `outgoing_channels` and `incoming_channels` for the two directions, and on `link_end`
-// for moves of fates. It promises that room, due bunches and free indexes are those of the whole
-// list of what the end did, and that what is received comes out as whole payloads in order, each
-// once. It reads no payload: which actor a payload opens, and whether a call may be made, is for the
-// layer above.
+// It stands on `outgoing_channels` and `incoming_channels` for the two directions, and on
+// `link_end` for moves of fates. It promises that room, due bunches and free indexes are those of
+// the whole list of what the end did, that what is received comes out as whole payloads in order,
+// each once, and that each actor is bound to one channel and each channel to one actor. It reads
+// no payload: which actor a payload opens, and whether a call may be made, is for the layer above.
+// Want of memory in `receive` spends a table, as `spend` does.
 #![tactic(auto)]
 
 mod calls;

@@ -211,7 +211,7 @@ impl ChannelTable {
         self.holders.bind(channel, actor)
     }
 
-    /// The channel is bound to nothing.
+    /// The channel is bound to nothing any more, nor its actor.
     pub fn unbind(&mut self, channel: u16)
         ensures channels { (a : ℕ) → channel_bound self.new.bound a
             ≡ other_than channel (channel_bound self.old.bound a) }
@@ -242,8 +242,8 @@ impl ChannelTable {
     /// Takes a bunch: the whole payloads that it hands on, and the rule that it breaks after them.
     /// After `Memory` the table is spent.
     ///
-    /// The layer above reads the payloads, and the table stands for the past with whatever they were
-    /// read as, as long as each is of its channel, and opens and closes it as its bunch says.
+    /// The layer above reads the payloads, and the table stands for the past with whatever they
+    /// were read as, as long as each is of its channel, and opens and closes it as its bunch says.
     pub fn receive(&mut self, b: &Bunch) -> Result<Delivered, Memory>
         ensures whole { IfOk result (λ d. (side : Side) (past : Past) → Keeps self.old side past
             → AreRaws (raws_heard side past (bunch_of b.now)).whole d.whole) }

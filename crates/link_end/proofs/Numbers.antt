@@ -33,7 +33,8 @@ amid front one other a b c d e =
     (before (front ++ one) (front ++ other) a (behind front one other e))))
 
 number_long : (reliable : Bool) (n m : ℕ)
-    → length (field_if reliable (int_bits sequence_modulus n)) ≡ length (field_if reliable (int_bits sequence_modulus m))
+    → length (field_if reliable (int_bits sequence_modulus n))
+    ≡ length (field_if reliable (int_bits sequence_modulus m))
 number_long true n m = power_width 10 n (omega arith) ∙ sym (power_width 10 m (omega arith))
 number_long false n m = refl
 
@@ -71,7 +72,8 @@ bunch_spelled : (v : Version) (b : Bunch) (n : ℕ) → b.reliable ≡ true → 
     → is_bunch v b ≡ true → is_bunch v (record b { seq = n }) ≡ true
 bunch_spelled v b n reliable below =
     in_first _ _ _ (in_second _ _ _ (numbered b.reliable (b.kind == 1 || b.kind == 2) (b.seq == 0 && b.kind == 0)
-    (n == 0 && b.kind == 0) (nat_lt n sequence_modulus) (nat_lt b.seq sequence_modulus) reliable (lt-ltb n sequence_modulus below)))
+    (n == 0 && b.kind == 0) (nat_lt n sequence_modulus) (nat_lt b.seq sequence_modulus) reliable
+    (lt-ltb n sequence_modulus below)))
 
 spelled : (v : Version) (b : Bunch) (n : ℕ) → b.reliable ≡ true → n < sequence_modulus
     → is_rec v (Sends b) ≡ true → is_rec v (Sends (record b { seq = n })) ≡ true

@@ -1,5 +1,5 @@
-// What a link doesn't see: bunches made, calls that wait, payloads handed on, and the end's death. And
-// that a bunch has room whatever its number is.
+// What a link doesn't see: bunches made, calls that wait, payloads handed on, and the end's death;
+// and that a bunch has room whatever its number is.
 ghost use Rattle.std.specs.Prelude.{◌≡◌, ◌<◌, ℕ, List, ◌∷◌, true};
 ghost use Rattle.protocol_model.specs.Limits.{sequence_modulus};
 ghost use Rattle.protocol_model.specs.declared.Version.{Version as VersionSpec};

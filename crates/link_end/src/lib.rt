@@ -18,10 +18,11 @@
 // the definitions for the items offered, in fewer bits than the budget and one packet's more, and
 // that a packet taken tells exactly its moves of fates and its bunches, up to the first
 // acknowledgement of what wasn't sent. A datagram that is malformed or old changes nothing. It
-// knows no channel and no actor, keeps no payload once that is packed, and has no clock. An end that
-// stalls is for the layer above to close.
+// knows no channel and no actor, keeps no payload once that is packed, and has no clock. An end
+// that stalls is for the layer above to close.
 //
-// Want of memory spends a link: from then on each call that may answer `Memory` does.
+// Want of memory spends a link, as `spend` does: from then on each call that may answer `Memory`
+// does.
 //
 //     link.begin_tick()?;
 //     while let Some(bunch) = due.next() {
