@@ -8,11 +8,12 @@ use Rattle.protocol_model.specs.declared.Reach.TheVariants.{Always, Near, Owner}
 use Rattle.protocol_model.specs.Value.{is_always, is_owner_only}
 use Rattle.graph_model.specs.Nodes.{Spot, Viewer, GridNode, AlwaysNode, DormantNode, is_near, admits_by_reach}
 use Rattle.graph_nodes.specs.Held.{Spots, CanPlace, CanMove, takes, with_spot, without_pair}
-use Rattle.graph_nodes.specs.Gathers.{count_of, Gathers}
+use Rattle.graph_nodes.specs.Gathers.{Gathers}
+use Rattle.actor_lists.specs.Shared.{count_of}
 use Rattle.graph_nodes.specs.Always as always
 use Rattle.graph_nodes.specs.Grid as grid
 use Rattle.graph_nodes.specs.Dormant.{Halves, Kept, Keeps, Stands, kept_if, near_of, always_of, given_by}
-use Rattle.graph_nodes.proofs.Counts.{count_of-append}
+use Rattle.actor_lists.proofs.Counts.{count_of-append}
 use Rattle.graph_nodes.proofs.GridLists.{given_at, given_spot, at_most_one, is_true, count_given}
 
 abbrev pub part : (Spot → Bool) → Spots → Spots

@@ -8,8 +8,8 @@ use Rattle.protocol_model.specs.declared.Reach.TheVariants.{Always, Near, Owner}
 use Rattle.graph_model.specs.Nodes.{Spot, Viewer, GridNode, is_near, admits_by_reach}
 use Rattle.graph_nodes.specs.declared.cells.Square.{Square}
 use Rattle.graph_nodes.specs.Held.{Spots, takes, with_spot, without_pair}
-use Rattle.graph_nodes.specs.Gathers.{count_of, Gathers}
-use Rattle.graph_nodes.specs.Shared.{list_at}
+use Rattle.graph_nodes.specs.Gathers.{Gathers}
+use Rattle.actor_lists.specs.Shared.{count_of, list_at}
 use Rattle.graph_nodes.specs.Grid.{Cell, Floor, Kept, Squares, Keeps, Stands, is_cell, is_covered, covers, square_of, square_in, cull_of, squares_of, with_square, without_square, cell_in, given_by}
 
 and_true : (b : Bool) → (b && true) ≡ b

@@ -4,8 +4,7 @@ use Rattle.std.specs.Prelude.{is_some, nat_lt}
 use Rattle.std.proofs.lemmas.Bool.Decides.{nat_tests}
 use Rattle.graph_model.specs.Nodes.{Spot, PlayerNode}
 use Rattle.graph_nodes.specs.Held.{Spots, CanPlace, with_spot, without_pair, without_actor}
-use Rattle.graph_nodes.specs.Gathers.{count_of}
-use Rattle.graph_nodes.specs.Shared.{list_at}
+use Rattle.actor_lists.specs.Shared.{count_of, list_at}
 use Rattle.graph_nodes.specs.Players.{Kept, Stands}
 use Rattle.graph_nodes.proofs.Pairs.{held_placed, held_removed}
 

@@ -5,8 +5,7 @@ use Rattle.std.specs.Map.{lookup}
 use Rattle.std.proofs.lemmas.Bool.Decides.{nat_tests}
 use Rattle.graph_model.specs.Nodes.{Spot, TeamNode}
 use Rattle.graph_nodes.specs.Held.{Spots, CanPlace, CanMove, takes, with_spot, without_pair}
-use Rattle.graph_nodes.specs.Gathers.{count_of}
-use Rattle.graph_nodes.specs.Shared.{list_at}
+use Rattle.actor_lists.specs.Shared.{count_of, list_at}
 use Rattle.graph_nodes.specs.Teams.{Members, Kept, Teams, Keeps, Stands, with_team, without_actor, teams_of}
 
 pub entered : (old new : Members) (teams : Teams) (actor team : ℕ)

@@ -5,7 +5,7 @@ use Rattle.graph_model.specs.Nodes.{Viewer}
 use Rattle.graph_nodes.specs.declared.any.AnyNode.{AnyNode}
 use Rattle.graph_nodes.specs.declared.any.AnyNode.TheVariants.{Grid, Always, Player, Dormant, Team}
 use Rattle.graph_nodes.specs.Held.{Spots}
-use Rattle.graph_nodes.specs.Shared.{list_at}
+use Rattle.actor_lists.specs.Shared.{list_at}
 use Rattle.graph_nodes.specs.Always as always
 use Rattle.graph_nodes.specs.Players as players
 use Rattle.graph_nodes.specs.Teams as teams

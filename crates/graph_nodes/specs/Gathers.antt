@@ -1,12 +1,8 @@
 -- What a node gives to a viewer.
 use Rattle.std.specs.Prelude.{◌≡◌, ℕ, ◌+◌, ◌<◌, ◌≤◌, ◌==◌, true, List, [], ◌∷◌, Some, if◌then◌else◌}
 use Rattle.graph_model.specs.Nodes.{Node, Spot, Viewer, admits}
+use Rattle.actor_lists.specs.Shared.{count_of}
 use Rattle.graph_nodes.specs.Held.{Spots}
-
--- how often an actor stands in a list
-abbrev pub count_of : (actor : ℕ) → List ℕ → ℕ
-count_of a [] = 0
-count_of a (b ∷ bs) = (if b == a then 1 else 0) + count_of a bs
 
 -- exactly the actors of the spots that the node's rule admits for the viewer, each once
 pub record Gathers (node : Node) (spots : Spots) (viewer : Viewer) (actors : List ℕ) : Type 0 where

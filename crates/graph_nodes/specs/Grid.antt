@@ -7,8 +7,7 @@ use Rattle.protocol_model.specs.declared.Reach.TheVariants.{Always, Near, Owner}
 use Rattle.graph_model.specs.Nodes.{Spot, Viewer, cell_of, is_near}
 use Rattle.graph_nodes.specs.declared.cells.Square.{Square}
 use Rattle.graph_nodes.specs.Held.{Spots}
-use Rattle.graph_nodes.specs.Gathers.{count_of}
-use Rattle.graph_nodes.specs.Shared.{list_at}
+use Rattle.actor_lists.specs.Shared.{count_of, list_at}
 
 -- a cell, by its column and its row
 abbrev pub Cell : Type 0

@@ -2,8 +2,7 @@
 use Rattle.std.specs.Prelude.{◌≡◌, ℕ, Bool, List, Some, is_some, nat_eq, if◌then◌else◌}
 use Rattle.graph_model.specs.Nodes.{Spot}
 use Rattle.graph_nodes.specs.Held.{Spots}
-use Rattle.graph_nodes.specs.Gathers.{count_of}
-use Rattle.graph_nodes.specs.Shared.{list_at}
+use Rattle.actor_lists.specs.Shared.{count_of, list_at}
 
 pub record Kept : Type 0 where
   pub lists : List (ℕ × List ℕ)

@@ -3,8 +3,7 @@ use Rattle.std.specs.Prelude.{◌≡◌, ◌≢◌, ◌==◌, ℕ, Bool, false, 
 use Rattle.std.specs.Map.{lookup}
 use Rattle.graph_model.specs.Nodes.{Spot}
 use Rattle.graph_nodes.specs.Held.{Spots}
-use Rattle.graph_nodes.specs.Gathers.{count_of}
-use Rattle.graph_nodes.specs.Shared.{list_at}
+use Rattle.actor_lists.specs.Shared.{count_of, list_at}
 
 -- each actor's team, and each team's actors
 pub record Members : Type 0 where

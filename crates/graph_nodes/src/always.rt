@@ -3,10 +3,9 @@ ghost use Rattle.std.specs.Prelude.{◌≡◌, false};
 ghost use Rattle.graph_nodes.specs.Held.{no_spots};
 ghost use Rattle.graph_nodes.specs.Always.{Stands};
 
-use crate::lists::Lists;
 use crate::node::GraphNode;
-use crate::pieces::Pieces;
 use crate::spot::{Spot, Viewer, has_player};
+use actor_lists::{Lists, Pieces};
 use net_core::{Guid, Memory, Player};
 use std::alloc::Global;
 use std::marker::Model;

@@ -6,9 +6,9 @@ ghost use Rattle.graph_nodes.specs.Dormant.{Keeps, Stands, given_in};
 
 use crate::always::AlwaysNode;
 use crate::grid::GridNode;
-use crate::lists::Lists;
 use crate::node::GraphNode;
 use crate::spot::{Spot, Viewer, has_player};
+use actor_lists::Lists;
 use net_core::{Guid, Memory, Player};
 use protocol_model::Reach;
 use std::alloc::Global;

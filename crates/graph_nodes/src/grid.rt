@@ -2,15 +2,13 @@
 ghost use Rattle.std.specs.Prelude.{◌≡◌, ◌+◌, ◌-◌, ◌&&◌, ℕ, false, not, None, is_some, nat_eq, OnOk, if◌then◌else◌};
 ghost use Rattle.std.specs.Map.{lookup};
 ghost use Rattle.graph_nodes.specs.Held.{Spots, no_spots, spot_in};
-ghost use Rattle.graph_nodes.specs.Gathers.{count_of};
-ghost use Rattle.graph_nodes.specs.Shared.{list_at};
+ghost use Rattle.actor_lists.specs.Shared.{count_of, list_at};
 ghost use Rattle.graph_nodes.specs.Grid.{Cell as CellSpec, Squares, Keeps, Stands, is_cell, covers, is_within, no_squares, with_square, without_square, square_in};
 
 use crate::cells::{Cell, Square, cell_at};
-use crate::lists::Lists;
 use crate::node::GraphNode;
-use crate::shelves::Shelves;
 use crate::spot::{Spot, Viewer, has_player};
+use actor_lists::{Lists, Shelves};
 use net_core::{Guid, Memory, Player};
 use protocol_model::Reach;
 use std::alloc::Global;

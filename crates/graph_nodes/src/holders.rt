@@ -1,7 +1,6 @@
 // Lists of players by a key.
 ghost use Rattle.std.specs.Prelude.{◌≡◌, ◌==◌, ◌+◌, ◌-◌, ◌&&◌, [], ℕ, nat_lt, slice_get, Some, IsTrue, IfSome, IfNone, OnOk, OnErr, if◌then◌else◌};
-ghost use Rattle.graph_nodes.specs.Gathers.{count_of};
-ghost use Rattle.graph_nodes.specs.Shared.{list_at};
+ghost use Rattle.actor_lists.specs.Shared.{count_of, list_at};
 
 use net_core::{Memory, Player};
 use std::alloc::Global;

@@ -23,37 +23,33 @@
 //     always.gather(viewer, &mut lists)?;
 //     for actor in lists.actors()?.iter() { .. }
 //
-// It stands on `graph_model` for which spots a node's rule admits for a viewer, on `protocol_model`
-// for reaches and limits, and on `net_core` for names and lists. It promises, for every node alike,
-// that `gather` appends exactly the held actors that the rule admits, each once; that taking out
-// what isn't held changes nothing; and that a list which was handed out stays as it was. Lists are
-// kept in pieces of at most 64 actors that are shared by `Rc`: a change makes one new piece, and an
-// actor that moves within its cells makes none. Who is relevant in the end is decided above: the
-// grid gives all actors whose square touches the viewer's cell, whatever their distance.
+// It stands on `actor_lists` for lists that are shared, on `graph_model` for which spots a node's
+// rule admits for a viewer, on `protocol_model` for reaches and limits, and on `net_core` for names.
+// It promises, for every node alike, that `gather` appends exactly the held actors that the rule
+// admits, each once; that taking out what isn't held changes nothing; and that a list which was
+// handed out stays as it was. An actor that moves within its cells changes no list. Who is relevant
+// in the end is decided above: the grid gives all actors whose square touches the viewer's cell,
+// whatever their distance.
 #![tactic(auto)]
 
 mod always;
 mod any;
-mod arranged;
 mod cells;
 mod dormant;
 mod grid;
 mod holders;
-mod lists;
 mod node;
-mod pieces;
 mod players;
-mod shelves;
 mod spot;
 mod teams;
 #[cfg(test)]
 mod tests;
 
+pub use actor_lists::Lists;
 pub use always::AlwaysNode;
 pub use any::AnyNode;
 pub use dormant::DormantNode;
 pub use grid::GridNode;
-pub use lists::Lists;
 pub use net_core::{Guid, GuidList, Memory, Player};
 pub use node::GraphNode;
 pub use players::PlayerNode;

@@ -4,8 +4,8 @@ ghost use Rattle.graph_model.specs.Nodes.{Node, Viewer as ViewerSpec};
 ghost use Rattle.graph_nodes.specs.Held.{Spots, CanPlace, CanMove, with_spot, without_pair, spot_in, viewer_in, player_in};
 ghost use Rattle.graph_nodes.specs.Gathers.{Gathers};
 
-use crate::lists::Lists;
 use crate::spot::{Spot, Viewer};
+use actor_lists::Lists;
 use net_core::{Guid, Memory, Player};
 
 /// A node of the graph. It holds spots, one for each pair of an actor and a player (none but in the

@@ -1,15 +1,13 @@
 // The node of pairs of an actor and a player.
 ghost use Rattle.std.specs.Prelude.{◌≡◌, ◌-◌, ◌==◌, ℕ, false, true, is_err, is_some, nat_eq, IsErr, OnOk, if◌then◌else◌};
 ghost use Rattle.graph_nodes.specs.Held.{Spots, no_spots, player_in, without_actor};
-ghost use Rattle.graph_nodes.specs.Gathers.{count_of};
-ghost use Rattle.graph_nodes.specs.Shared.{list_at};
+ghost use Rattle.actor_lists.specs.Shared.{count_of, list_at};
 ghost use Rattle.graph_nodes.specs.Players.{Stands};
 
 use crate::holders::Holders;
-use crate::lists::Lists;
 use crate::node::GraphNode;
-use crate::shelves::Shelves;
 use crate::spot::{Spot, Viewer};
+use actor_lists::{Lists, Shelves};
 use net_core::{Guid, Memory, Player};
 use std::alloc::Global;
 use std::marker::Model;
@@ -100,7 +98,7 @@ fn named(player: Option<Player>) -> Player
 impl GraphNode for PlayerNode {
     ghost use Rattle.graph_model.specs.Nodes.{PlayerNode as row_of};
     ghost use Rattle.std.specs.Prelude.{nat_eq};
-    ghost use Rattle.graph_nodes.specs.Shared.{list_at};
+    ghost use Rattle.actor_lists.specs.Shared.{list_at};
     ghost use Rattle.graph_nodes.specs.Players.{Stands as stands_for};
 
     ghost row = { λ n. row_of };

@@ -3,10 +3,9 @@ ghost use Rattle.std.specs.Prelude.{◌≡◌, false, Some, None, is_some, OnOk}
 ghost use Rattle.graph_nodes.specs.Held.{Spots, no_spots};
 ghost use Rattle.graph_nodes.specs.Teams.{Teams, Keeps, Stands, no_teams, with_team, without_actor};
 
-use crate::lists::Lists;
 use crate::node::GraphNode;
-use crate::shelves::Shelves;
 use crate::spot::{Spot, Viewer, has_player};
+use actor_lists::{Lists, Shelves};
 use net_core::{Guid, Memory, Player};
 use std::alloc::Global;
 use std::collections::HashMap;
@@ -118,7 +117,7 @@ impl TeamNode {
 impl GraphNode for TeamNode {
     ghost use Rattle.std.specs.Prelude.{◌==◌, [], nat_eq, if◌then◌else◌};
     ghost use Rattle.graph_model.specs.Nodes.{TeamNode as row_of};
-    ghost use Rattle.graph_nodes.specs.Shared.{list_at};
+    ghost use Rattle.actor_lists.specs.Shared.{list_at};
     ghost use Rattle.graph_nodes.specs.Teams.{Stands as stands_for};
 
     ghost row = { λ n. row_of };

@@ -9,7 +9,7 @@ use Rattle.protocol_model.specs.Value.{Table}
 use Rattle.protocol_model.specs.World.{Edits, Spawn, Destroy, Set, Own, View, Add, Dormant, Wake, Flush, Switch, Team, Give, Spawned, actors_of, lives, spawn_of, spawn_count}
 use Rattle.graph_model.specs.Nodes.{Viewer, viewer_at}
 use Rattle.graph_model.specs.Listed.{is_listed, listed_count}
-use Rattle.graph_nodes.specs.Gathers.{count_of}
+use Rattle.actor_lists.specs.Shared.{count_of}
 use Rattle.world_table.proofs.Numbers.{same_number}
 use Rattle.world_table.proofs.Telling.{spawn_counts}
 use Rattle.rep_graph.specs.Graph.{IsLawful}

@@ -14,8 +14,9 @@ use Rattle.graph_model.specs.Listed.{is_listed, listed_as, touches_viewer}
 use Rattle.graph_nodes.specs.declared.any.AnyNode.{AnyNode}
 use Rattle.graph_nodes.specs.Held.{Spots}
 use Rattle.graph_nodes.specs.Any as any
-use Rattle.graph_nodes.specs.Gathers.{Gathers, count_of}
-use Rattle.graph_nodes.proofs.Counts.{count_of-append}
+use Rattle.graph_nodes.specs.Gathers.{Gathers}
+use Rattle.actor_lists.specs.Shared.{count_of}
+use Rattle.actor_lists.proofs.Counts.{count_of-append}
 use Rattle.world_table.proofs.Numbers.{same, same_number}
 use Rattle.rep_graph.specs.Spots.{world_spots}
 use Rattle.rep_graph.specs.Graph.{Holds, IsLawful}

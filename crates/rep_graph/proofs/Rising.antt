@@ -5,7 +5,7 @@ use Rattle.std.specs.List.{AllPairs, range_with_len}
 use Rattle.std.specs.List.Sorted.{IsStrictlyIncreasing}
 use Rattle.std.proofs.lemmas.List.Kept.{AllPairs-from_increasing}
 use Rattle.std.proofs.lemmas.Bool.Decides.{nat_tests}
-use Rattle.graph_nodes.specs.Gathers.{count_of}
+use Rattle.actor_lists.specs.Shared.{count_of}
 use Rattle.world_table.proofs.Numbers.{same, same_number, other_number}
 
 -- ---- membership is a count

@@ -1,7 +1,6 @@
 use Rattle.std.proofs.Common.{◌≡◌, ◌+◌, ℕ, ◌&&◌, not, nat_eq, if◌then◌else◌}
 use Rattle.std.specs.Prelude.{◌≤ℤ◌, ◌<ℤ◌}
-use Rattle.graph_nodes.specs.Gathers.{count_of}
-use Rattle.graph_nodes.specs.Shared.{list_at}
+use Rattle.actor_lists.specs.Shared.{count_of, list_at}
 use Rattle.graph_nodes.specs.Grid.{Cell, is_cell, covers}
 use Rattle.graph_nodes.proofs.Rows.{is_left}
 use Rattle.graph_nodes.proofs.grid.fill.Given as goal

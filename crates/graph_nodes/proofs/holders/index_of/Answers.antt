@@ -1,6 +1,6 @@
 use Rattle.std.proofs.Common.{arith}
 use Rattle.std.proofs.lemmas.Bool.Decides.{nat_tests}
-use Rattle.graph_nodes.proofs.Counts.{count_of-more}
+use Rattle.actor_lists.proofs.Counts.{count_of-more}
 use Rattle.graph_nodes.proofs.holders.index_of.Goals as goal
 
 pub loop-index-preserved : goal.loop-index-preserved

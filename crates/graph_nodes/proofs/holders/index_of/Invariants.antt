@@ -1,5 +1,5 @@
 use Rattle.std.proofs.Common.{◌≡◌, take}
-use Rattle.graph_nodes.specs.Gathers.{count_of}
+use Rattle.actor_lists.specs.Shared.{count_of}
 use Rattle.graph_nodes.proofs.holders.index_of.Given as goal
 
 abbrev pub invariant-loop-index : goal.invariant-loop-index

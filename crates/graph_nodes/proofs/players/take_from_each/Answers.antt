@@ -1,5 +1,5 @@
 use Rattle.std.proofs.Common.{◌==◌}
-use Rattle.graph_nodes.proofs.Counts.{count_of-more}
+use Rattle.actor_lists.proofs.Counts.{count_of-more}
 use Rattle.graph_nodes.proofs.PlayerLists.{taken_more}
 use Rattle.graph_nodes.proofs.players.take_from_each.Goals as goal
 

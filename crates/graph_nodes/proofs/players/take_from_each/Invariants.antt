@@ -1,6 +1,5 @@
 use Rattle.std.proofs.Common.{◌≡◌, ◌-◌, ◌==◌, ℕ, nat_eq, take, if◌then◌else◌}
-use Rattle.graph_nodes.specs.Gathers.{count_of}
-use Rattle.graph_nodes.specs.Shared.{list_at}
+use Rattle.actor_lists.specs.Shared.{count_of, list_at}
 use Rattle.graph_nodes.proofs.players.take_from_each.Given as goal
 
 abbrev pub invariant-loop-player : goal.invariant-loop-player

@@ -1,5 +1,5 @@
 use Rattle.std.proofs.Common.{arith}
-use Rattle.graph_nodes.proofs.Counts.{count_of-push}
+use Rattle.actor_lists.proofs.Counts.{count_of-push}
 use Rattle.graph_nodes.proofs.holders.Players.add.Goals as goal
 
 pub returns-clause-ok : goal.returns-clause-ok

@@ -1,7 +1,7 @@
 use Rattle.std.proofs.Common.{◌∙◌, ap, ℕ, List}
 use Rattle.std.specs.Prelude.{nat_lt}
-use Rattle.graph_nodes.specs.Gathers.{count_of}
-use Rattle.graph_nodes.proofs.Counts.{found_in}
+use Rattle.actor_lists.specs.Shared.{count_of}
+use Rattle.actor_lists.proofs.Counts.{found_in}
 use Rattle.graph_nodes.proofs.holders.Players.contains.Goals as goal
 
 pub returns : goal.returns

@@ -1,5 +1,5 @@
 use Rattle.std.proofs.Common.{arith}
-use Rattle.graph_nodes.proofs.Counts.{count_of-remove}
+use Rattle.actor_lists.proofs.Counts.{count_of-remove}
 use Rattle.graph_nodes.proofs.holders.Players.take.Goals as goal
 
 pub returns-in-Some : goal.returns-in-Some

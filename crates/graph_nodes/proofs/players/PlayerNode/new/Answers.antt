@@ -1,5 +1,5 @@
 use Rattle.std.proofs.Common.{ap}
-use Rattle.graph_nodes.specs.Gathers.{count_of}
+use Rattle.actor_lists.specs.Shared.{count_of}
 use Rattle.graph_nodes.proofs.players.PlayerNode.new.Goals as goal
 
 pub returns-clause-stands : goal.returns-clause-stands

@@ -1,7 +1,0 @@
-use Rattle.std.proofs.Common.{◌≡◌, take}
-use Rattle.std.specs.Prelude.{nat_lt}
-use Rattle.graph_nodes.specs.Gathers.{count_of}
-use Rattle.graph_nodes.proofs.pieces.has.Given as goal
-
-abbrev pub invariant-loop-other : goal.invariant-loop-other
-invariant-loop-other l = l.found ≡ nat_lt 0 (count_of l.actor (take l.other-index l.actors))
