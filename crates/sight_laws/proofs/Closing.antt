@@ -64,7 +64,7 @@ making_same past other ch m kept h = record {
 -- ---- what is told of an actor goes on
 
 -- an actor whose state and flush number stay wants no more than before
-wants_like : (past later : Past) (seen : Seen) → state_of later seen.actor ≡ state_of past seen.actor
+pub wants_like : (past later : Past) (seen : Seen) → state_of later seen.actor ≡ state_of past seen.actor
     → kept_flush later seen.actor ≡ kept_flush past seen.actor → wants_open later seen ≡ wants_open past seen
 wants_like past later seen s k =
     ap (λ (s : ActorState). is_closed s || (is_asleep s && not (is_asleep s && seen.dormant && is_kept later seen))) s
@@ -95,14 +95,14 @@ sleeps_own (Calls b number call args) a e = absurd (false≢true e)
 sleeps_own (Gone b) a e = absurd (false≢true e)
 
 -- a message of another actor leaves state and flush number
-state_elsewhere : (past : Past) (ch : ℕ) (m : Message) (a : ℕ) → marks a m ≡ false
+pub state_elsewhere : (past : Past) (ch : ℕ) (m : Message) (a : ℕ) → marks a m ≡ false
     → state_of (after_making past ch m) a ≡ state_of past a
 state_elsewhere past ch m a e =
     state_same past (after_making past ch m) (arrival_made past ch m) a
     (mark_made past ch m a ∙ ap (λ (b : Bool). cond b
     (Some (record { channel = ch; number = made_count past ch + 1; message = m })) (last_mark past a)) e)
 
-flush_elsewhere : (past : Past) (ch : ℕ) (m : Message) (a : ℕ) → sleeps_actor a m ≡ false
+pub flush_elsewhere : (past : Past) (ch : ℕ) (m : Message) (a : ℕ) → sleeps_actor a m ≡ false
     → kept_flush (after_making past ch m) a ≡ kept_flush past a
 flush_elsewhere past ch m a e =
     flush_made past ch m a ∙ ap (λ (b : Bool). cond b (flush_seen past a) (kept_flush past a)) e
@@ -197,14 +197,14 @@ room_makes {shown} {given} past other o p m e makes h = subst
         go false = h
 
 -- which close is made of an actor, by the tests that call for it
-abbrev closed_by : Past → ℕ → (plain sleeps gone : Bool) → Past
+abbrev pub closed_by : Past → ℕ → (plain sleeps gone : Bool) → Past
 closed_by past a plain sleeps gone =
     cond plain (made_if_room past (index_of past a) (Closes a false))
     (cond sleeps (made_if_room past (index_of past a) (Closes a true))
     (cond gone (made_if_room past (Some 0) (Gone a)) past))
 
 -- the close of an actor, by its entry in the sight
-abbrev closed : Past → ℕ → Option Seen → Past
+abbrev pub closed : Past → ℕ → Option Seen → Past
 closed past a o =
     closed_by past a (is_open (state_of past a) && (is_shown (λ s. s.destroyed) o || nat_le 5 (idle_ticks past a)))
     (is_shown (λ s. s.dormant && is_settled_as past s) o)
@@ -247,7 +247,7 @@ close_alike {shown} {given} past other a o e h =
     by false false false = h
 
 -- an actor that isn't open makes no close but its Gone
-shut_close : (past : Past) (a : ℕ) (seen : Seen) → is_open (state_of past a) ≡ false
+pub shut_close : (past : Past) (a : ℕ) (seen : Seen) → is_open (state_of past a) ≡ false
     → is_opened (state_of past seen.actor) ≡ false
     → closed past a (Some seen) ≡ cond (is_asleep (state_of past a) && seen.destroyed)
     (made_if_room past (Some 0) (Gone a)) past
@@ -262,7 +262,7 @@ shut_close past a seen e f =
     unsettled d r f = rw f (Rattle.std.proofs.lemmas.Bool.and_right d false refl)
 
 -- a closed one makes none
-none_close : (past : Past) (a : ℕ) → is_open (state_of past a) ≡ false → is_asleep (state_of past a) ≡ false
+pub none_close : (past : Past) (a : ℕ) → is_open (state_of past a) ≡ false → is_asleep (state_of past a) ≡ false
     → closed past a None ≡ past
 none_close past a e f = rw (e, f) refl
 

@@ -45,6 +45,14 @@ bytes_same end past other h = sym (bytes_own end other) ∙ ap (sent_bytes end) 
 pub same_self : (past : Past) → SameButSights past past
 same_self past = record { done = refl; relevance = λ a. refl; flush = λ a. refl; owned = λ a. refl }
 
+pub same_sym : (past other : Past) → SameButSights past other → SameButSights other past
+same_sym past other h = record {
+  done = sym h.done;
+  relevance = λ a. sym (h.relevance a);
+  flush = λ a. sym (h.flush a);
+  owned = λ a. sym (h.owned a);
+}
+
 pub feeds_same : (end : End) {feed other : List Event} → HandsLess end feed other
     → SameButSights (past_of end feed) (past_of end other)
 feeds_same end none = same_self []

@@ -1,5 +1,5 @@
 -- The actors of a tick stand in the same order, whatever values the sight given leaves out.
-use Rattle.std.proofs.Common.{◌≡◌, ℕ, zero, suc, ◌<◌, ◌≤◌, List, [], ◌∷◌, map, filter, Bool, true, false, not, cond, ◌&&◌, refl, sym, ap, ◌∙◌, subst, arith, Some, None, slice_get}
+use Rattle.std.proofs.Common.{◌≡◌, ℕ, zero, suc, ◌<◌, ◌≤◌, List, [], ◌∷◌, map, filter, Bool, true, false, cond, refl, sym, ap, ◌∙◌, subst, arith, Some, None, slice_get}
 use Rattle.std.specs.List.{AllByRecursion}
 use Rattle.std.proofs.lemmas.Bool.{false≢true, ne_eqb, eq-eqb}
 use Rattle.protocol_model.specs.Search.{insert_in_order, in_order}
@@ -11,6 +11,7 @@ use Rattle.connection_laws.proofs.ActorsShown.{SeenNow, actors_seen_now}
 use Rattle.sight_laws.specs.Sights.{unvalued, Shows, AscendsFrom, IsSight}
 use Rattle.sight_laws.specs.Sights.Shows.{none, as_it_is, without_values, without_entry}
 use Rattle.sight_laws.specs.Differing.{SameButSights}
+use Rattle.sight_laws.proofs.Shown.{done_parts}
 use Rattle.sight_laws.proofs.Relevance.{score_same}
 
 -- ---- lists
@@ -75,7 +76,7 @@ given_ascends past low order (without_entry {seen = seen} {given = given} q h) =
 abbrev pub IsEntry : List Seen → Seen → Type 0
 IsEntry sight seen = seen_in sight seen.actor ≡ Some seen
 
-above_all : (low : ℕ) (sight : List Seen) → AscendsFrom low sight
+pub above_all : (low : ℕ) (sight : List Seen) → AscendsFrom low sight
     → AllByRecursion (λ (seen : Seen). low < seen.actor) sight
 above_all low [] h = tt
 above_all low (seen ∷ sight) h = (
@@ -105,11 +106,6 @@ entries_once low (seen ∷ sight) h = (
 abbrev pub relevant_of : List Seen → List Seen
 relevant_of sight = filter (λ (seen : Seen). seen.relevant) sight
 
-done_irrelevant : (d r o c : Bool) → (d && not r && not o && c) ≡ true → r ≡ false
-done_irrelevant true false o c e = refl
-done_irrelevant true true o c e = absurd (false≢true e)
-done_irrelevant false r o c e = absurd (false≢true e)
-
 pub relevant_alike : (past : Past) {shown given : List Seen} → Shows past shown given
     → map unvalued (relevant_of given) ≡ map unvalued (relevant_of shown)
 relevant_alike past none = refl
@@ -132,7 +128,7 @@ relevant_alike past (without_values {seen = seen} {sight = sight} {given = given
 relevant_alike past (without_entry {seen = seen} {sight = sight} q h) =
     relevant_alike past h
     ∙ ap (λ (b : Bool). map unvalued (cond b (seen ∷ relevant_of sight) (relevant_of sight)))
-    (sym (done_irrelevant seen.destroyed seen.relevant seen.owns (is_closed (state_of past seen.actor)) q))
+    (sym (done_parts seen.destroyed seen.relevant seen.owns (is_closed (state_of past seen.actor)) q).0)
 
 -- what a tick needs of the two sights
 pub record SightsFit (shown given : List Seen) : Type 0 where

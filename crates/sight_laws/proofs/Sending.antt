@@ -1,5 +1,5 @@
 -- A tick sends the same, whichever of the two sights it was given.
-use Rattle.std.proofs.Common.{◌≡◌, ℕ, ◌+◌, List, [], ◌∷◌, ◌++◌, map, length, reverse, Bool, true, false, not, cond, ◌&&◌, ◌||◌, ◌==◌, nat_lt, nat_le, refl, sym, ap, ◌∙◌, subst, fold, Option, Some, None, option_map, unwrap_or}
+use Rattle.std.proofs.Common.{◌≡◌, ℕ, ◌+◌, List, [], ◌∷◌, ◌++◌, map, length, reverse, Bool, true, false, not, cond, ◌||◌, nat_lt, nat_le, refl, sym, ap, ◌∙◌, subst, fold, Option, Some, None, option_map}
 use Rattle.std.specs.List.{AllByRecursion, filter_map, range_with_len}
 use Rattle.std.proofs.lemmas.Bool.{false≢true}
 use Rattle.protocol_model.specs.Limits.{unresolved_limit}
@@ -12,9 +12,9 @@ use Rattle.protocol_model.specs.declared.Version.TheVariants.{One, Two}
 use Rattle.connection_model.specs.Feed.{End, Past, Sent, Ended, ByStall, Item, has_ended, tick_count, seen_in}
 use Rattle.connection_model.specs.Fates.{last_sent, unresolved_count, taken_of, owed_of}
 use Rattle.connection_model.specs.Bunches.{made_count, room, after_making}
-use Rattle.connection_model.specs.State.{ActorState, state_of, is_opened, is_closed, is_asleep, index_of, free_index}
+use Rattle.connection_model.specs.State.{ActorState, state_of, is_opened, index_of, free_index}
 use Rattle.connection_model.specs.Carry.{due_pairs}
-use Rattle.connection_model.specs.Items.{is_kept, wants_open, open_message, update_message, update_pairs, loose_item, call_item, due_items, first_items, actors_by_score}
+use Rattle.connection_model.specs.Items.{wants_open, open_message, update_message, update_pairs, loose_item, call_item, due_items, first_items, actors_by_score}
 use Rattle.connection_model.specs.CallAnswers.{call_channel, waiting_of}
 use Rattle.connection_model.specs.Pack.{Packing, has_room, after_offer, part_item, after_open, after_update, after_actor, packing_of, is_silent, owes_head, packets_to_send, after_sending, after_stall, after_packing, after_closes, after_tick}
 use Rattle.packing_laws.specs.Beginning.{ticked}
@@ -25,7 +25,7 @@ use Rattle.sight_laws.specs.Differing.{but_sights, SameButSights}
 use Rattle.sight_laws.proofs.Unsighted.{ended_same, count_same, since_same, owed_same, waiting_same, unresolved_same, sent_same, header_same, delivered_same, alike, due_same, states_same, indexes_same, free_same, due_pairs_same, needed_same, silent_same, filter_map_same}
 use Rattle.sight_laws.proofs.Shown.{Told, InTick, shut_unopened, begins_same}
 use Rattle.sight_laws.proofs.Shown.Told.{same, empty, missing}
-use Rattle.sight_laws.proofs.Closing.{makes_same, closes_same}
+use Rattle.sight_laws.proofs.Closing.{wants_like, makes_same, closes_same}
 use Rattle.sight_laws.proofs.Scoring.{IsTurn, relevant_of, actors_alike, actors_entries, SightsFit, sights_fit}
 
 -- ---- packing
@@ -144,12 +144,7 @@ acted end p seen wants opened =
 
 wants_same : (past other : Past) (seen : Seen) → SameButSights past other → wants_open other seen ≡ wants_open past seen
 wants_same past other seen h =
-    ap (λ (s : ActorState). is_closed s || (is_asleep s && not (is_asleep s && seen.dormant && is_kept other seen)))
-    (states_same past other h.done seen.actor)
-    ∙ ap (λ (o : Option ℕ). is_closed (state_of past seen.actor) ||
-    (is_asleep (state_of past seen.actor) && not
-    (is_asleep (state_of past seen.actor) && seen.dormant && unwrap_or
-    (option_map (λ flush. flush == seen.flush) o) false))) (h.flush seen.actor)
+    wants_like past other seen (states_same past other h.done seen.actor) (h.flush seen.actor)
 
 pub actor_same : {shown given : List Seen} (end : End) (p : Packing) (other : Past) (seen : Seen)
     → seen_in given seen.actor ≡ seen_in shown seen.actor → InTick shown given p.past other

@@ -104,7 +104,7 @@ none_below past low order (without_values {seen = seen} {given = given} q h) a l
 none_below past low order (without_entry {seen = seen} q h) a le =
     none_below past seen.actor order.2 h a (omega (arith, order.0))
 
-done_parts : (d r o c : Bool) → (d && not r && not o && c) ≡ true → (r ≡ false) × (o ≡ false) × (c ≡ true)
+pub done_parts : (d r o c : Bool) → (d && not r && not o && c) ≡ true → (r ≡ false) × (o ≡ false) × (c ≡ true)
 done_parts true false false true e = (refl, refl, refl)
 done_parts true false false false e = absurd (false≢true e)
 done_parts true false true c e = absurd (false≢true e)

@@ -351,6 +351,9 @@ module _ (past other : Past) (e : but_sights other ≡ but_sights past) where
   pub service_same : (a : ℕ) → last_service other a ≡ last_service past a
   service_same a = sym (service_own other a) ∙ ap (λ (p : Past). last_service p a) e ∙ service_own past a
 
+  pub packets_same : filter_map last_packet_in other ≡ filter_map last_packet_in past
+  packets_same = found last_packet_in (λ t s. refl)
+
   -- what is sent of nothing packed
   pub silent_same : is_silent other ≡ is_silent past
-  silent_same = rw (unresolved_same, count_same, found last_packet_in (λ t s. refl)) refl
+  silent_same = rw (unresolved_same, count_same, packets_same) refl

@@ -22,7 +22,7 @@
 // `hearing`), they sent the same packets, and all that a tick, a call or a datagram asks of one is
 // what it asks of the other (`asks`). An end that is given such sights all along sends byte for
 // byte what one sends that is given whole ones (`feeds_send_the_same`). The whole sight ascends by
-// actor and has none that is both destroyed and relevant, as every sight of a world does (`sights`).
+// actor, and none in it is both destroyed and relevant, as in every sight of a world (`sights`).
 //
 // It doesn't say that a sender may leave out anything else, such as an actor that is relevant and
 // has nothing to send, nor which sights a server makes.
