@@ -1,0 +1,7 @@
+mod Longest
+mod Loops
+mod Lengths
+mod Named
+mod Handles
+mod Arguments
+mod Guids
