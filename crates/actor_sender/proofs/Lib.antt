@@ -1,0 +1,14 @@
+pub mod Records
+pub mod Tables
+pub mod Pairs
+pub mod Settling
+pub mod News
+pub mod AfterMove
+pub mod Fresh
+pub mod Telling
+pub mod Unseen
+pub mod Hears
+pub mod Moving
+pub mod Learning
+pub mod Showing
+pub mod Begun

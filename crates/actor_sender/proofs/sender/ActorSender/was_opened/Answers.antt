@@ -1,0 +1,11 @@
+use Rattle.std.proofs.Common.{◌∙◌, ap, sym}
+use Rattle.sender_records.specs.declared.actor.ActorRecord.{ActorRecord}
+use Rattle.actor_sender.proofs.sender.ActorSender.was_opened.Goals as goal
+
+pub returns-in-Some : goal.returns-in-Some
+returns-in-Some c = λ past samples h. ap (λ (r : ActorRecord). r.life.opened) c.in-Some.ensures
+    ∙ (h.each c.args.actor).life.opened
+
+pub returns-in-None : goal.returns-in-None
+returns-in-None c = λ past samples h. ap (λ (r : ActorRecord). r.life.opened) c.in-None.ensures
+    ∙ (h.each c.args.actor).life.opened

@@ -1,0 +1,44 @@
+// What the server's end of one connection keeps of the actors that it sends, after the actor
+// channels that Unreal keeps for each connection:
+//
+//     fates move        moved          told to the updates, and to the opens and closes, under way
+//     tick begins       take_in        what the client knows, whom the sight shows
+//     asked             state, was_opened, shows_owned, quiet, settled
+//
+// A server's end that hears of packets, and begins a tick:
+//
+//     for m in moves {
+//         sender.moved(m, &mut channels);
+//     }
+//     if !sender.quiet(actor, dormant, flush) {
+//         // its values go into the sight
+//     }
+//     sender.take_in(&sight, &channels)?;
+//
+// It stands on `sender_records` for what is kept of one actor, on `channel_table` for the channels
+// that actors hold and for what has arrived on them, on `class_layout` for classes and values, and
+// on `sender_laws`. It promises that what is kept stands for all that the end did (`Keeps`), so
+// that every answer is that of the definitions over this whole list, and that a channel is given
+// up exactly where its close has arrived. It knows no world, as what a player sees is handed to it,
+// and no other connection. It doesn't send: the closes, opens and updates of a tick, and their
+// packets, aren't here.
+#![tactic(auto)]
+
+mod heard;
+pub mod laws;
+mod moved;
+mod sender;
+mod sent;
+mod settled;
+mod sight;
+mod taking;
+#[cfg(test)]
+mod tests;
+mod tidying;
+
+pub use channel_table::ChannelTable;
+pub use class_layout::{Classes, Pair, PairList};
+pub use link_end::FateMove;
+pub use sender::ActorSender;
+pub use sender_records::ActorState;
+pub use sight::{Seen, Sight};

@@ -1,0 +1,206 @@
+// The sender of one connection.
+ghost use Rattle.std.specs.Prelude.{◌≡◌, ◌<◌, [], ℕ, List, None, unwrap_or, OnOk, OnErr, IsErr};
+ghost use Rattle.std.specs.Option.{option_copied};
+ghost use Rattle.protocol_model.specs.Side.{AtServer};
+ghost use Rattle.connection_model.specs.Feed.{Past};
+ghost use Rattle.connection_model.specs.State.{state_of, was_opened as was_opened_in};
+ghost use Rattle.connection_model.specs.Settled.{is_settled_as};
+ghost use Rattle.connection_model.specs.CallAnswers.{is_seen_owned};
+ghost use Rattle.connection_laws.specs.Run.{Ascends};
+ghost use Rattle.packing_laws.specs.Beginning.{ticked};
+ghost use Rattle.channel_laws.specs.Moves.{IsMove};
+ghost use Rattle.channel_table.specs.Keeps.{Keeps as KeepsTable};
+ghost use Rattle.class_layout.specs.Tables.{Layout};
+ghost use Rattle.shadow_changes.specs.Samples.{Samples};
+ghost use Rattle.sender_records.specs.Actors.{fresh_actor};
+ghost use Rattle.sender_records.specs.Life.{state_value};
+ghost use Rattle.actor_sender.specs.Sender.{record_at};
+ghost use Rattle.actor_sender.specs.Sights.{seen_value, sight_value, actors_in};
+ghost use Rattle.actor_sender.specs.States.{is_quiet_as};
+ghost use Rattle.actor_sender.specs.Stands.{Keeps, StandsBoth, IsSpent};
+
+use crate::heard::hear_all;
+use crate::moved::{drop_known, tell_updates};
+use crate::sent::{OpenSent, UpdateSent};
+use crate::settled::is_settled;
+use crate::sight::{Seen, Sight};
+use crate::taking::{learn, show_all};
+use crate::tidying::tidy;
+use bit_io::Memory;
+use channel_table::ChannelTable;
+use class_layout::Classes;
+use link_end::FateMove;
+use net_core::Guid;
+use sender_records::{ActorRecord, ActorState};
+use std::alloc::Global;
+use std::collections::HashMap;
+use std::marker::Model;
+
+/// The actors of one connection, as they were sent.
+#[derive(Drop)]
+pub struct ActorSender {
+    alloc: Global,
+    records: HashMap<u32, ActorRecord>,
+    updates: Vec<UpdateSent>,
+    pending: Vec<Guid>,
+    live: Vec<Guid>,
+    known: Vec<bool>,
+    opens: Vec<OpenSent>,
+    ticks: u64,
+    spent: bool,
+}
+
+impl Model for ActorSender {
+    ghost use Rattle.actor_sender.specs.Sender.{Sender};
+
+    ghost Value = { Sender };
+
+    ghost view = { λ s. record {
+      records = s.records.entries;
+      updates = s.updates.items;
+      pending = s.pending.items;
+      live = s.live.items;
+      known = s.known.items;
+      opens = s.opens.items;
+      ticks = s.ticks;
+      spent = s.spent;
+    } };
+}
+
+impl ActorSender {
+    /// Nothing was sent.
+    pub fn new(alloc: Global) -> ActorSender
+        ensures { Keeps result [] [] }
+    {
+        ActorSender {
+            alloc,
+            records: HashMap::new(alloc),
+            updates: Vec::new(alloc),
+            pending: Vec::new(alloc),
+            live: Vec::new(alloc),
+            known: Vec::new(alloc),
+            opens: Vec::new(alloc),
+            ticks: 0,
+            spent: false,
+        }
+    }
+
+    /// A tick begins: takes in what the client knows by now and whom the sight shows, and forgets
+    /// what is under way no more. The actors of the sight ascend. After `Memory` the sender is
+    /// spent.
+    pub fn take_in(&mut self, sight: &Sight, table: &ChannelTable) -> Result<(), Memory>
+        ensures keeps { OnOk result ((layout : Layout) (past : Past) (samples : Samples)
+            → Keeps self.old past samples → KeepsTable table.now AtServer past
+            → Ascends 0 (actors_in sight.now)
+            → Keeps self.new (ticked past (sight_value layout sight.now)) samples) }
+        ensures spent { OnErr result (IsSpent self.new) }
+        ensures after { IsSpent self.old → IsErr result }
+    {
+        if self.spent {
+            return Err(Memory);
+        }
+        match self.take(sight, table) {
+            Ok(()) => Ok(()),
+            Err(memory) => {
+                self.spent = true;
+                Err(memory)
+            }
+        }
+    }
+
+    /// Takes them in, as long as memory lasts.
+    fn take(&mut self, sight: &Sight, table: &ChannelTable) -> Result<(), Memory>
+        ensures { OnOk result ((layout : Layout) (past : Past) (samples : Samples)
+            → Keeps self.old past samples → KeepsTable table.now AtServer past
+            → Ascends 0 (actors_in sight.now)
+            → Keeps self.new (ticked past (sight_value layout sight.now)) samples) }
+    {
+        let Some(tick) = self.ticks.checked_add(1) else {
+            return Err(Memory);
+        };
+        learn(&mut self.opens, &mut self.known, table);
+        show_all(self.alloc, &mut self.records, sight.as_slice(), tick)?;
+        tidy(&self.records, &mut self.pending, &mut self.live);
+        self.ticks = tick;
+        Ok(())
+    }
+
+    /// Learns the fates that a move tells, with the channels.
+    pub fn moved(&mut self, m: FateMove, table: &mut ChannelTable)
+        requires from { table.old.high ≡ m.from }
+        requires above { m.from < m.to }
+        ensures { (past after : Past) (samples : Samples)
+            → StandsBoth self.old table.old past samples → IsMove m.from m.to past after
+            → StandsBoth self.new table.new after samples }
+    {
+        table.moved(m);
+        tell_updates(&mut self.records, self.updates.as_slice(), m.from, m.to);
+        drop_known(&mut self.updates, m.to);
+        hear_all(&mut self.records, self.pending.as_slice(), table);
+    }
+
+    /// The record of an actor, if it has one.
+    fn find(&self, actor: Guid) -> Option<&ActorRecord>
+        ensures { unwrap_or (option_copied result) (fresh_actor actor)
+            ≡ record_at self.now actor }
+    {
+        self.records.get(&actor.0)
+    }
+
+    /// Where the channel of an actor stands.
+    pub fn state(&self, actor: Guid) -> ActorState
+        ensures { (past : Past) (samples : Samples) → Keeps self.now past samples
+            → state_value result ≡ state_of past actor }
+    {
+        match self.find(actor) {
+            Some(record) => record.life.state,
+            None => ActorState::None,
+        }
+    }
+
+    /// An open of the actor was ever made.
+    pub fn was_opened(&self, actor: Guid) -> bool
+        ensures { (past : Past) (samples : Samples) → Keeps self.now past samples
+            → result ≡ was_opened_in past actor }
+    {
+        match self.find(actor) {
+            Some(record) => record.life.opened,
+            None => false,
+        }
+    }
+
+    /// The last tick's sight shows the actor as owned.
+    pub fn shows_owned(&self, actor: Guid) -> bool
+        ensures { (past : Past) (samples : Samples) → Keeps self.now past samples
+            → result ≡ is_seen_owned past actor }
+    {
+        match self.find(actor) {
+            Some(record) => record.service.owned(self.ticks),
+            None => false,
+        }
+    }
+
+    /// The actor is asleep, and is seen as dormant with the flush number that was kept at its
+    /// dormant close: the values of such an actor may be left out of a sight.
+    pub fn quiet(&self, actor: Guid, dormant: bool, flush: u64) -> bool
+        ensures { (past : Past) (samples : Samples) → Keeps self.now past samples
+            → result ≡ is_quiet_as past actor dormant flush }
+    {
+        match self.find(actor) {
+            Some(record) => record.life.is_quiet(dormant, flush),
+            None => false,
+        }
+    }
+
+    /// Nothing is left to send of an actor as it is seen now, and all that was sent has arrived.
+    pub fn settled(&self, seen: &Seen, table: &ChannelTable, classes: &Classes) -> bool
+        ensures { (past : Past) (samples : Samples)
+            → StandsBoth self.now table.now past samples
+            → result ≡ is_settled_as past (seen_value classes.now seen.now) }
+    {
+        match self.find(seen.actor) {
+            Some(record) => is_settled(record, seen, table, classes),
+            None => false,
+        }
+    }
+}
