@@ -1,4 +1,4 @@
 pub mod Named
-pub mod Visible
+pub mod Among
 pub mod Property
 pub mod Looks

@@ -10,7 +10,7 @@ use Rattle.value_codec.specs.declared.pair.Pair.{Pair as PairValue}
 use Rattle.world_table.specs.declared.edit.Look.{Look}
 use Rattle.world_table.specs.Answers.{look_of, spawned_look}
 use Rattle.sender_records.specs.Handles.{pairs_of}
-use Rattle.actor_sights.specs.Sights.{visible_among}
+use Rattle.actor_sights.specs.Visible.{visible_among}
 
 some_is : {A : Type 0} {x y : A} → Some x ≡ Some y → x ≡ y
 some_is {A} {x} h = ap (λ o. unwrap_or o x) h

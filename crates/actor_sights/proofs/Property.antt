@@ -16,7 +16,7 @@ use Rattle.value_codec.specs.declared.pair.Pair.{Pair as PairValue}
 use Rattle.world_table.specs.Answers.{is_switched}
 use Rattle.sender_records.specs.Handles.{pair_value, pairs_of}
 use Rattle.actor_sights.specs.Sampled.{values_of}
-use Rattle.actor_sights.specs.Sights.{visible_among}
+use Rattle.actor_sights.specs.Visible.{visible_among}
 
 -- a custom property alone asks its switch
 asked_alone : (cond : Cond) (own on : Bool) → visible cond own (is_custom cond && on) ≡ visible cond own on

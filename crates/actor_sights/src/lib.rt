@@ -4,8 +4,8 @@
 //     world --sampled(actor)--> values --seen(player, actor, look)--> an entry of the sight
 //                                  \---> shadow_changes
 //
-// It stands on `world_table` for looks, values and switches, on `class_layout` for classes, and on
-// `rep_conditions` for which properties a connection sees. It promises that an entry is what the
+// It stands on `actor_sender` for what a sight is, on `world_table` for looks, values and switches, on
+// `class_layout` for classes, and on `rep_conditions` for which properties a connection sees. It promises that an entry is what the
 // definitions say that the player sees of the actor, and nothing of another connection: its values
 // are those that the player may see. Which actors are relevant is not asked here.
 //
@@ -16,13 +16,12 @@
 //     let to_other = seen(alloc, world, other, actor, &look, values.as_slice())?;
 #![tactic(auto)]
 
-mod entry;
 mod sampling;
 mod showing;
 #[cfg(test)]
 mod tests;
 
-pub use entry::{Seen, Sight};
+pub use actor_sender::{Seen, Sight};
 pub use net_core::Memory;
 pub use sampling::{ValueList, sampled};
 pub use showing::{gone, seen, seen_asleep};

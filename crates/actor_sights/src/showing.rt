@@ -11,9 +11,10 @@ ghost use Rattle.world_table.specs.Answers.{look_of};
 ghost use Rattle.world_table.specs.Stands.{Stands};
 ghost use Rattle.sender_records.specs.Handles.{pairs_of};
 ghost use Rattle.actor_sights.specs.Sampled.{values_of};
-ghost use Rattle.actor_sights.specs.Sights.{seen_value, visible_among};
+ghost use Rattle.actor_sender.specs.Sights.{seen_value};
+ghost use Rattle.actor_sights.specs.Visible.{visible_among};
 
-use crate::entry::Seen;
+use actor_sender::Seen;
 use class_layout::Class;
 use net_core::{Guid, Handle, Memory, Player};
 use protocol_model::Cond;

@@ -9,9 +9,9 @@ use Rattle.class_members.specs.declared.members.Prop.{Prop as PropValue}
 use Rattle.class_layout.specs.Tables.{table_in}
 use Rattle.class_layout.specs.Tables.{class_of as class_value}
 use Rattle.sender_records.specs.Handles.{pairs_of}
-use Rattle.actor_sights.specs.Sights.{visible_among}
+use Rattle.actor_sights.specs.Visible.{visible_among}
 use Rattle.actor_sights.proofs.Property.{own_at}
-use Rattle.actor_sights.proofs.Visible.{among_more}
+use Rattle.actor_sights.proofs.Among.{among_more}
 use Rattle.actor_sights.proofs.showing.put_own.Goals as goal
 
 pub loop-i-preserved : goal.loop-i-preserved

@@ -8,7 +8,7 @@ use Rattle.class_layout.specs.Tables.{class_of as class_value}
 use Rattle.world_table.specs.Stands.{Stands}
 use Rattle.sender_records.specs.Handles.{pairs_of}
 use Rattle.actor_sights.specs.Sampled.{values_of}
-use Rattle.actor_sights.specs.Sights.{visible_among}
+use Rattle.actor_sights.specs.Visible.{visible_among}
 use Rattle.actor_sights.proofs.showing.put_own.Given as goal
 
 abbrev pub invariant-loop-i : goal.invariant-loop-i

@@ -9,7 +9,7 @@ use Rattle.protocol_model.specs.Value.{Table, Prop, numbered_from}
 use Rattle.protocol_model.specs.World.{Edits, owns, is_on}
 use Rattle.protocol_model.specs.Sight.{seen_value}
 use Rattle.protocol_model.specs.Cond.{visible}
-use Rattle.actor_sights.specs.Sights.{visible_among}
+use Rattle.actor_sights.specs.Visible.{visible_among}
 
 numbered_more : (h : ℕ) (props : List Prop) (p : Prop) (k : ℕ) → k ≡ h + length props
     → numbered_from h (props ++ p ∷ []) ≡ numbered_from h props ++ (k, p) ∷ []
