@@ -63,7 +63,8 @@ fn hear_life(life: &mut Life, table: &mut ChannelTable)
     ensures index { (life.new.index ≡ life.old.index) ⊎ (life.new.index ≡ None) }
     ensures table { IsUnbound life.old.index life.new.index table.old table.new }
     ensures keeps { (past later : Past) (actor : ℕ) → IsGrown past later
-        → KeepsTable table.old AtServer later → KeepsLife past actor life.old → KeepsLife later actor life.new }
+        → KeepsTable table.old AtServer later → KeepsLife past actor life.old
+        → KeepsLife later actor life.new }
 {
     let held = life.index;
     life.hears(is_clear(table, held));
