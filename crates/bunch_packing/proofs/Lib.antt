@@ -1,0 +1,9 @@
+pub mod Offering
+pub mod Packable
+pub mod Owing
+pub mod Places
+pub mod Carrying
+pub mod Going
+pub mod Tick
+pub mod Pushing
+pub mod Trials
