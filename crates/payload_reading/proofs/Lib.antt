@@ -1,7 +1,7 @@
 mod Handles
-mod Stops
+pub mod Stops
 mod Tables
-mod Loops
+pub mod Loops
 mod Collecting
 mod Names
 mod CallSteps
