@@ -1,0 +1,4 @@
+mod ExportSteps
+pub mod Knowing
+mod PayloadSteps
+mod Tables
