@@ -1,5 +1,5 @@
--- The room that is taken before something is written, in bits. It is no less than what is put, and than what a `put`
--- asks for.
+-- The room that is taken before something is written, in bits: no less than what is put, and than
+-- what a `put` asks for.
 use Rattle.std.specs.Prelude.{ℕ, ◌+◌, ◌*◌, List, [], ◌∷◌, length}
 use Rattle.protocol_model.specs.Limits.{name_bytes}
 use Rattle.value_codec.specs.declared.args.Arg.{Arg}

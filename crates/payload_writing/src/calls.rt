@@ -14,7 +14,8 @@ use class_layout::{Arg, Call, Kind, put_value};
 use net_core::Guid;
 use std::alloc::Global;
 
-/// The payload of a call of an actor, by its number in the actor's class, with arguments that fit it.
+/// The payload of a call of an actor, by its number in the actor's class, with arguments that fit
+/// it.
 pub fn call_payload(
     alloc: Global,
     called: &Call,

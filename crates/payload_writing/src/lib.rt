@@ -19,8 +19,8 @@
 //
 // It promises that the bits of each payload are those of its message in `protocol_model`, and that
 // an update holds the longest prefix of the values that has room in 6,000 bits. Want of memory is
-// the only error. All room of a payload is taken at once, each value is written once, and nothing is
-// kept. It knows no channel and no part: cutting a payload into bunches is for the channels.
+// the only error. All room of a payload is taken at once, each value is written once, and nothing
+// is kept. It knows no channel and no part: cutting a payload into bunches is for the channels.
 #![tactic(auto)]
 
 mod calls;

@@ -17,8 +17,8 @@ use net_core::Guid;
 use payload_reading::class_at;
 use std::alloc::Global;
 
-/// The payload of an open of an actor with these values: the segments of these guids, the actor, its
-/// class, and the values. The class is a place in the table.
+/// The payload of an open of an actor with these values: the segments of these guids, the actor,
+/// its class, and the values. The class is a place in the table.
 pub fn open_payload(
     alloc: Global,
     classes: &Classes,

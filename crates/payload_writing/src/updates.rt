@@ -28,8 +28,8 @@ pub struct UpdatePayload {
     pub count: usize,
 }
 
-/// The payload of an update with the longest prefix of these values that has room in 6,000 bits. The
-/// class of the actor is a place in the table.
+/// The payload of an update with the longest prefix of these values that has room in 6,000 bits.
+/// The class of the actor is a place in the table.
 pub fn update_payload(
     alloc: Global,
     classes: &Classes,
