@@ -12,3 +12,10 @@ pub mod Moving
 pub mod Learning
 pub mod Showing
 pub mod Begun
+pub mod Rooms
+pub mod Ends
+pub mod Folds
+pub mod Called
+pub mod Goes
+pub mod Pushes
+pub mod Live

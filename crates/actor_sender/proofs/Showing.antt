@@ -1,7 +1,7 @@
 -- A sight that ascends by actor, shown entry by entry.
-use Rattle.std.proofs.Common.{◌≡◌, ◌≢◌, ◌∙◌, inl, inr, ℕ, zero, suc, ◌+◌, ◌<◌, ◌==◌, List, [], ◌∷◌, take, Bool, true, false, ◌&&◌, ◌||◌, ap, sym, refl, subst, arith, Option, Some, None, cond, find, option_map, unwrap_or}
+use Rattle.std.proofs.Common.{◌≡◌, ◌≢◌, ◌∙◌, inl, inr, ℕ, zero, suc, ◌+◌, ◌<◌, ◌≤◌, ◌==◌, List, [], ◌∷◌, take, Bool, true, false, ◌&&◌, ◌||◌, ap, sym, refl, subst, arith, Option, Some, None, cond, find, option_map, unwrap_or}
 use Rattle.std.specs.List.{slice_get}
-use Rattle.std.proofs.lemmas.Bool.{cases_Bool, cases_eq, eq-eqb, eqb-true, ne_eqb, false≢true}
+use Rattle.std.proofs.lemmas.Bool.{cases_Bool, cases_eq, cases_lt, eq-eqb, eqb-true, ne_eqb, false≢true}
 use Rattle.protocol_model.specs.Search.{is_among}
 use Rattle.protocol_model.specs.Sight.{Seen}
 use Rattle.connection_model.specs.Feed.{Past, Deed, Ticked, tick_count, is_relevant_in, seen_in}
@@ -218,4 +218,53 @@ shown_all tick sight start now count whole h layout past t ascends kept a =
           (not_relevant layout sight a e)
           (ap (λ (o : Option Seen). unwrap_or (option_map (λ (seen : Seen). seen.owns) o) false)
           (not_seen layout sight a e)))
+    ]
+
+-- ---- the entry of an actor, looked for by place
+
+-- none of it is, if each entry is of another
+among_none : (sight : List SeenValue) (a : ℕ) → ((i : ℕ) (s : SeenValue) → slice_get sight i ≡ Some s → s.actor ≢ a)
+    → is_among a (actors_in sight) ≡ false
+among_none [] a h = refl
+among_none (x ∷ sight) a h =
+    ap (λ (b : Bool). b || is_among a (actors_in sight)) (ne_eqb x.actor a (h zero x refl))
+    ∙ among_none sight a (λ i s at. h (suc i) s at)
+
+-- later entries are of actors above
+later_above : (sight : List SeenValue) (low i j : ℕ) (x y : SeenValue) → Ascends low (actors_in sight)
+    → slice_get sight i ≡ Some x → slice_get sight j ≡ Some y → i < j → x.actor < y.actor
+later_above [] low i j x y h p q lt = absurd (let no : (let o : Option SeenValue = None in o) ≡ Some x = p in cc)
+later_above (z ∷ sight) low zero zero x y h p q lt = absurd (omega (arith, lt))
+later_above (z ∷ sight) low zero (suc j) x y h p q lt =
+    let same : z ≡ x = cc in
+    subst (λ (w : SeenValue). w.actor < y.actor) same (above_low (actors_in sight) z.actor y.actor h.1
+    (entry_among sight j y q))
+later_above (z ∷ sight) low (suc i) zero x y h p q lt = absurd (omega (arith, lt))
+later_above (z ∷ sight) low (suc i) (suc j) x y h p q lt = later_above sight z.actor i j x y h.1 p q (omega (arith, lt))
+
+-- an actor between two places isn't seen
+pub between_unseen : (layout : Layout) (sight : List SeenValue) (at a : ℕ) → Ascends 0 (actors_in sight)
+    → ((i : ℕ) (s : SeenValue) → slice_get sight i ≡ Some s → i < at → s.actor < a)
+    → ((s : SeenValue) → slice_get sight at ≡ Some s → a < s.actor) → seen_in (sight_value layout sight) a ≡ None
+between_unseen layout sight at a ascends before there = not_seen layout sight a (among_none sight a other)
+  where
+    here : (o : Option SeenValue) → slice_get sight at ≡ o → (i : ℕ) (s : SeenValue) → slice_get sight i ≡ Some s
+        → at < i → s.actor ≢ a
+    here None e i s q lt same = absurd (no_later sight at i s e q lt)
+      where
+        no_later : (xs : List SeenValue) (m n : ℕ) (s : SeenValue) → slice_get xs m ≡ None → slice_get xs n ≡ Some s
+            → m < n → ⊥
+        no_later [] m n s e q lt = (let no : (let o : Option SeenValue = None in o) ≡ Some s = q in cc)
+        no_later (x ∷ xs) zero n s e q lt = (let no : Some x ≡ None = e in cc)
+        no_later (x ∷ xs) (suc m) zero s e q lt = omega (arith, lt)
+        no_later (x ∷ xs) (suc m) (suc n) s e q lt = no_later xs m n s e q (omega (arith, lt))
+    here (Some x) e i s q lt same = omega (arith, there x e, later_above sight 0 at i x s ascends e q lt, same)
+
+    other : (i : ℕ) (s : SeenValue) → slice_get sight i ≡ Some s → s.actor ≢ a
+    other i s q same = elim (cases_lt i at) [
+      | inl lt ↦ omega (arith, before i s q lt, same)
+      | inr le ↦ elim (cases_eq i at) [
+        | inl e ↦ omega (arith, there s (ap (slice_get sight) (sym e) ∙ q), same)
+        | inr ne ↦ here (slice_get sight at) refl i s q (omega (arith, le, ne)) same
+      ]
     ]

@@ -31,10 +31,10 @@ pub record IsUnbound (before after : Option ℕ) (t later : Channels) : Type 0 w
   pub paired : IsPaired t.bound → IsPaired later.bound
   pub rest : later ≡ record t { bound = later.bound }
 
--- the channels stand for the later past; each actor's does too, or stands for the past before, and then it
--- is left to hear if something is under way on it
-pub record Hearing (past later : Past) (left : List ℕ) (records : List (ℕ × ActorRecord)) (t : Channels)
-    : Type 0 where
+-- the channels stand for the later past; each actor's does too, or stands for the past before, and
+-- then it is left to hear if something is under way on it
+pub record Hearing (past later : Past) (left : List ℕ) (records : List (ℕ × ActorRecord))
+    (t : Channels) : Type 0 where
   pub each : (a : ℕ) → KeepsLife later a (record_in records a).life
       ⊎ (KeepsLife past a (record_in records a).life
       × (is_pending (state_value (record_in records a).life.state) ≡ true → is_among a left ≡ true))

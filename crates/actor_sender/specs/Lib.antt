@@ -3,3 +3,4 @@ pub mod Sights
 pub mod Stands
 pub mod States
 pub mod Hearing
+pub mod Closing

@@ -9,9 +9,10 @@ use Rattle.sender_records.specs.Actors.{fresh_actor}
 use Rattle.actor_sender.specs.declared.sent.UpdateSent.{UpdateSent}
 use Rattle.actor_sender.specs.declared.sent.OpenSent.{OpenSent}
 
--- a record an actor, by its guid; the updates under way with their packets; the actors with an open or a
--- close under way, and those whose channel isn't closed, ascending; whether each segment, by its guid, was
--- taken for known, and the opens that may have made more of them known since; and the ticks so far
+-- a record an actor, by its guid; the updates under way with their packets; the actors with an open
+-- or a close under way, and those whose channel isn't closed, ascending; whether each segment, by
+-- its guid, was taken for known, and the opens that may have made more known since; and the ticks
+-- so far
 pub record Sender : Type 0 where
   pub records : List (ℕ × ActorRecord)
   pub updates : List UpdateSent

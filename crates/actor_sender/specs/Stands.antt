@@ -74,11 +74,12 @@ AreOpensMade past known opens =
 abbrev pub AreLow : Past → Type 0
 AreLow past = (a ch : ℕ) → index_of past a ≡ Some ch → (1 ≤ ch) × (ch < channels_one)
 
--- a sender is right about the past, and about the samples of its last tick. What is known is looked up
--- at the next tick: as more arrives, it is what was taken for known and what these opens make known.
+-- a sender is right about the past, and about the samples of its last tick. What is known is looked
+-- up at the next tick: as more arrives, it is what was taken for known and what these opens make so
 pub record Keeps (s : Sender) (past : Past) (samples : Samples) : Type 0 where
   pub each : AreKept past samples s.records
-  pub under_way : (a h : ℕ) → is_open (state_kept s a) ≡ true → high_of past < packet_in s.records a h
+  pub under_way : (a h : ℕ) → is_open (state_kept s a) ≡ true
+      → high_of past < packet_in s.records a h
       → list_any (is_update_sent (packet_in s.records a h) a) s.updates ≡ true
   pub pending : (a : ℕ) → is_pending (state_kept s a) ≡ true → is_among a s.pending ≡ true
   pub live : (a : ℕ) → is_closed (state_kept s a) ≡ false → is_among a s.live ≡ true
@@ -97,7 +98,7 @@ pub record Keeps (s : Sender) (past : Past) (samples : Samples) : Type 0 where
 abbrev pub IsSpent : Sender → Type 0
 IsSpent s = s.spent ≡ true
 
--- sender and channels stand for one past in the middle of a tick, when calls wait that came before it
+-- sender and channels stand for one past in a tick, when calls wait that came before it
 pub record KeepsBoth (s : Sender) (t : Channels) (past : Past) (samples : Samples) : Type 0 where
   pub sender : Keeps s past samples
   pub table : KeepsTable t AtServer past
@@ -110,8 +111,8 @@ pub record StandsBoth (s : Sender) (t : Channels) (past : Past) (samples : Sampl
   pub table : StandsTable t AtServer past
 
 -- sender, link and channels stand for one past
-pub record Stands (s : Sender) (l : Link) (t : Channels) (end : End) (past : Past) (samples : Samples)
-    : Type 0 where
+pub record Stands (s : Sender) (l : Link) (t : Channels) (end : End) (past : Past)
+    (samples : Samples) : Type 0 where
   pub sender : Keeps s past samples
   pub link : Rests l end past
   pub table : StandsTable t AtServer past
@@ -124,6 +125,8 @@ pub record Extends (before after : Samples) : Type 0 where
 
 -- the values that an actor is seen with are those of its newest sample; the role has none
 abbrev pub Agrees : Samples → Seen → Type 0
-Agrees samples seen = (pair : Pair) (before after : List Pair) → seen.values ≡ before ++ pair ∷ after
-    → pair.handle ≢ 3 → (s : Sample) × (newest_of (λ (s : Sample). Some s) (samples_of samples seen.actor) ≡ Some s)
+Agrees samples seen = (pair : Pair) (before after : List Pair)
+    → seen.values ≡ before ++ pair ∷ after → pair.handle ≢ 3
+    → (s : Sample)
+    × (newest_of (λ (s : Sample). Some s) (samples_of samples seen.actor) ≡ Some s)
     × (slice_get s.values (place_of pair.handle) ≡ Some pair.value)

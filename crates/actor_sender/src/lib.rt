@@ -3,6 +3,7 @@
 //
 //     fates move        moved          told to the updates, and to the opens and closes, under way
 //     tick begins       take_in        what the client knows, whom the sight shows
+//     actors end        make_closes    closes, dormant closes and Gones, each on its channel
 //     asked             state, was_opened, shows_owned, quiet, settled
 //
 // A server's end that hears of packets, and begins a tick:
@@ -14,16 +15,20 @@
 //         // its values go into the sight
 //     }
 //     sender.take_in(&sight, &channels)?;
+//     sender.make_closes(&sight, &mut channels, classes)?;
 //
 // It stands on `sender_records` for what is kept of one actor, on `channel_table` for the channels
-// that actors hold and for what has arrived on them, on `class_layout` for classes and values, and
-// on `sender_laws`. It promises that what is kept stands for all that the end did (`Keeps`), so
-// that every answer is that of the definitions over this whole list, and that a channel is given
-// up exactly where its close has arrived. It knows no world, as what a player sees is handed to it,
-// and no other connection. It doesn't send: the closes, opens and updates of a tick, and their
-// packets, aren't here.
+// that actors hold and for what has arrived on them, on `payload_writing` for what a close and a
+// Gone say, on `class_layout` for classes and values, and on `sender_laws`. It promises that what
+// is kept stands for all that the end did (`Keeps`), so that every answer is that of the
+// definitions over this whole list; that a channel is given up exactly where its close has arrived;
+// and that exactly the closes are made that a tick calls for. It knows no world, as what a player
+// sees is handed to it, and no other connection. It doesn't send: the opens and updates of a tick,
+// and its packets, aren't here.
 #![tactic(auto)]
 
+mod closes;
+mod closing;
 mod heard;
 pub mod laws;
 mod moved;

@@ -1,8 +1,9 @@
 // The sender of one connection.
-ghost use Rattle.std.specs.Prelude.{◌≡◌, ◌<◌, [], ℕ, List, None, unwrap_or, OnOk, OnErr, IsErr};
+ghost use Rattle.std.specs.Prelude.{◌≡◌, ◌<◌, ◌+◌, ◌^◌, [], ℕ, List, length, None, unwrap_or, OnOk, OnErr, IsErr};
 ghost use Rattle.std.specs.Option.{option_copied};
 ghost use Rattle.protocol_model.specs.Side.{AtServer};
-ghost use Rattle.connection_model.specs.Feed.{Past};
+ghost use Rattle.connection_model.specs.Feed.{Past, sight_of};
+ghost use Rattle.connection_model.specs.Pack.{after_closes};
 ghost use Rattle.connection_model.specs.State.{state_of, was_opened as was_opened_in};
 ghost use Rattle.connection_model.specs.Settled.{is_settled_as};
 ghost use Rattle.connection_model.specs.CallAnswers.{is_seen_owned};
@@ -17,8 +18,9 @@ ghost use Rattle.sender_records.specs.Life.{state_value};
 ghost use Rattle.actor_sender.specs.Sender.{record_at};
 ghost use Rattle.actor_sender.specs.Sights.{seen_value, sight_value, actors_in};
 ghost use Rattle.actor_sender.specs.States.{is_quiet_as};
-ghost use Rattle.actor_sender.specs.Stands.{Keeps, StandsBoth, IsSpent};
+ghost use Rattle.actor_sender.specs.Stands.{Keeps, KeepsBoth, StandsBoth, IsSpent};
 
+use crate::closes::close_all;
 use crate::heard::hear_all;
 use crate::moved::{drop_known, tell_updates};
 use crate::sent::{OpenSent, UpdateSent};
@@ -123,6 +125,38 @@ impl ActorSender {
         tidy(&self.records, &mut self.pending, &mut self.live);
         self.ticks = tick;
         Ok(())
+    }
+
+    /// Makes the closes and Gones that the tick calls for which was taken in with this sight, each
+    /// where its channel has room. After `Memory` the sender is spent.
+    pub fn make_closes(
+        &mut self,
+        sight: &Sight,
+        table: &mut ChannelTable,
+        classes: &Classes,
+    ) -> Result<(), Memory>
+        requires stands { (past : Past) × (samples : Samples)
+            × KeepsBoth self.old table.old past samples
+            × (sight_of past ≡ sight_value classes.now sight.now)
+            × Ascends 0 (actors_in sight.now) }
+        requires few { table.old.made.count + length self.old.live < 2 ^ 60 }
+        ensures keeps { OnOk result ((past : Past) (samples : Samples)
+            → KeepsBoth self.old table.old past samples
+            → sight_of past ≡ sight_value classes.now sight.now
+            → Ascends 0 (actors_in sight.now)
+            → KeepsBoth self.new table.new (after_closes past) samples) }
+        ensures spent { OnErr result (IsSpent self.new) }
+    {
+        let (alloc, tick) = (self.alloc, self.ticks);
+        let (records, pending) = (&mut self.records, &mut self.pending);
+        let (live, sight) = (self.live.as_slice(), sight.as_slice());
+        match close_all(alloc, records, pending, live, sight, tick, table, classes) {
+            Ok(()) => Ok(()),
+            Err(memory) => {
+                self.spent = true;
+                Err(memory)
+            }
+        }
     }
 
     /// Learns the fates that a move tells, with the channels.

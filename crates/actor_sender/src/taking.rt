@@ -35,19 +35,19 @@ pub fn learn(opens: &mut Vec<OpenSent>, known: &mut Vec<bool>, table: &ChannelTa
 {
     note_arrived(opens.as_slice(), known, table);
     opens.retain(
-        |open|
+        |sent|
             ensures { (past : Past) → KeepsTable table.entry.now AtServer past
-                → result ≡ not (is_open_gone past open.now) }
-        { !has_arrived(open, table) },
+                → result ≡ not (is_open_gone past sent.now) }
+        { !has_arrived(sent, table) },
     );
 }
 
 /// All up to the open's last part has arrived on its channel.
-fn has_arrived(open: &OpenSent, table: &ChannelTable) -> bool
+fn has_arrived(sent: &OpenSent, table: &ChannelTable) -> bool
     ensures { (side : Side) (past : Past) → KeepsTable table.now side past
-        → result ≡ is_open_gone past open.now }
+        → result ≡ is_open_gone past sent.now }
 {
-    table.bunch(open.channel, open.last).is_none()
+    table.bunch(sent.channel, sent.last).is_none()
 }
 
 /// Takes for known the segments of those that have arrived.

@@ -1,0 +1,69 @@
+use Rattle.std.proofs.Common.{arith, ◌≡◌, ◌∙◌, ℕ, List, length, ap, sym, refl, subst}
+use Rattle.connection_laws.specs.Run.{Ascends}
+use Rattle.actor_sender.specs.declared.sight.Seen.{Seen}
+use Rattle.actor_sender.specs.Closing.{IsTicked}
+use Rattle.actor_sender.specs.Sender.{Sender}
+use Rattle.actor_sender.specs.Sights.{sight_value, actors_in}
+use Rattle.actor_sender.specs.Stands.{KeepsBoth}
+use Rattle.actor_sender.proofs.sender.ActorSender.make_closes.Goals as goal
+
+pub close_all-requires-clause-stands : goal.close_all-requires-clause-stands
+close_all-requires-clause-stands c =
+    let s : Sender = record {
+      records = c.self.inside.records.entries;
+      updates = c.self.inside.updates.items;
+      pending = c.self.inside.pending.items;
+      live = c.self.inside.live.items;
+      known = c.self.inside.known.items;
+      opens = c.self.inside.opens.items;
+      ticks = c.self.inside.ticks;
+      spent = c.self.inside.spent;
+    } in
+    let both = subst (λ (x : Sender). KeepsBoth x c.args.table.now c.requires.stands.0 c.requires.stands.1)
+    (sym c.self.view_is) c.requires.stands.2 in (
+      s,
+      c.requires.stands.0,
+      c.requires.stands.1,
+      record {
+        both = both;
+        records_are = refl;
+        pending_are = refl;
+        live_are = sym c.as_slice-live.ensures.value;
+        tick_is = both.sender.ticks;
+        sight_is = c.requires.stands.3 ∙ ap (sight_value c.args.classes.now) (sym c.as_slice-sight.ensures);
+        ascends = subst (λ (xs : List Seen). Ascends 0 (actors_in xs))
+            (sym c.as_slice-sight.ensures) c.requires.stands.4;
+      },
+    )
+
+pub close_all-requires-clause-few : goal.close_all-requires-clause-few
+close_all-requires-clause-few c = omega (
+  arith,
+  c.requires.few,
+  ap length c.as_slice-live.ensures.value,
+  ap
+      (λ (x : Sender). length x.live) c.self.view_is,
+)
+
+pub returns-in-Ok-clause-keeps : goal.returns-in-Ok-clause-keeps
+returns-in-Ok-clause-keeps c = λ past samples both sight ascends.
+    let s : Sender = record {
+      records = c.self.inside.records.entries;
+      updates = c.self.inside.updates.items;
+      pending = c.self.inside.pending.items;
+      live = c.self.inside.live.items;
+      known = c.self.inside.known.items;
+      opens = c.self.inside.opens.items;
+      ticks = c.self.inside.ticks;
+      spent = c.self.inside.spent;
+    } in
+    let both' = subst (λ (x : Sender). KeepsBoth x c.args.table.now past samples) (sym c.self.view_is) both in
+    c.in-Ok.ensures s past samples (record {
+      both = both';
+      records_are = refl;
+      pending_are = refl;
+      live_are = sym c.as_slice-live.ensures.value;
+      tick_is = both'.sender.ticks;
+      sight_is = sight ∙ ap (sight_value c.args.classes.now) (sym c.as_slice-sight.ensures);
+      ascends = subst (λ (xs : List Seen). Ascends 0 (actors_in xs)) (sym c.as_slice-sight.ensures) ascends;
+    })
