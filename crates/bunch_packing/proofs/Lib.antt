@@ -7,3 +7,6 @@ pub mod Going
 pub mod Tick
 pub mod Pushing
 pub mod Trials
+pub mod Parts
+pub mod FirstPart
+pub mod Opening

@@ -50,7 +50,7 @@ sent_both past later (items ∷ packets) sent ticks =
     }
 
 -- a message made sends nothing, and no tick begins
-same_last : (past : Past) (ch : ℕ) (m : Message) → last_sent (after_making past ch m) ≡ last_sent past
+pub same_last : (past : Past) (ch : ℕ) (m : Message) → last_sent (after_making past ch m) ≡ last_sent past
 same_last past ch m = making_keeps (λ i before. last_sent before ≡ last_sent past) past ch m refl (λ i before lt e. e)
 
 same_ticks : (past : Past) (ch : ℕ) (m : Message) → tick_count (after_making past ch m) ≡ tick_count past

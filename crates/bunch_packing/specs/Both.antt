@@ -19,9 +19,10 @@ use Rattle.channel_table.specs.Keeps.{Keeps}
 abbrev pub IsLow : Version → Past → Type 0
 IsLow version past = (ch : ℕ) → channel_limit version ≤ ch → made_count past ch ≡ 0
 
--- in a tick that began after `before`, link and channels are right about what was packed by now, as if the tick were
--- to end now; no bunch that is carried has arrived
-pub record PacksBoth (l : Link) (t : Channels) (end : End) (side : Side) (before : Past) (p : Packing) : Type 0 where
+-- in a tick that began after `before`, link and channels are right about what was packed by now, as
+-- if the tick were to end now; no bunch that is carried has arrived
+pub record PacksBoth
+    (l : Link) (t : Channels) (end : End) (side : Side) (before : Past) (p : Packing) : Type 0 where
   pub link : Packs l end before p
   pub table : Keeps t side (sent_now p)
   pub unarrived : CarryUnarrived p.past p.packets
@@ -42,7 +43,8 @@ IsOwing p ch n = (is_due (sent_now p) ch n ≡ true) × (1 ≤ n) × (n ≤ made
 -- the packet into which an item goes that is offered, if there is room
 abbrev pub packet_for : End → Packing → Item → Option ℕ
 packet_for end p item =
-    if has_room end p item then Some (last_sent p.past + length (after_offer end p item).packets) else None
+    if has_room end p item then Some (last_sent p.past + length (after_offer end p item).packets)
+    else None
 
 -- an unreliable bunch with this payload
 abbrev pub bare_bunch : (channel : ℕ) → (payload : List Bool) → Bunch

@@ -12,8 +12,8 @@ use Rattle.bunch_packing.specs.Both.{PacksBoth, NonePacked, IsLow}
 -- between two ticks
 abbrev pub AreIdle : Link → Channels → Type 0
 AreIdle l t =
-    (end : End) × (side : Side) × (past : Past) × Rests l end past × Keeps t side past × IsLow end.version past
-    × (1 ≤ end.budget)
+    (end : End) × (side : Side) × (past : Past) × Rests l end past × Keeps t side past
+    × IsLow end.version past × (1 ≤ end.budget)
 
 -- in a tick
 abbrev pub AreEnding : Link → Channels → Type 0

@@ -40,12 +40,12 @@ pub fn ticks_end()
 /// In the middle of a tick the past before its packets and the past with them tell the same of
 /// room, of who holds which channel, and of the next free index.
 pub fn packets_change_no_answer()
-    ensures room { (l : Link) (t : Channels) (end : End) (side : Side) (before : Past) (p : Packing)
-        (ch : ℕ) → PacksBoth l t end side before p → room (sent_now p) ch ≡ room p.past ch }
+    ensures room { (l : Link) (t : Channels) (end : End) (side : Side) (before : Past)
+        (p : Packing) (ch : ℕ) → PacksBoth l t end side before p
+        → room (sent_now p) ch ≡ room p.past ch }
     ensures count { (p : Packing) (ch : ℕ) → made_count (sent_now p) ch ≡ made_count p.past ch }
     ensures arrived { (l : Link) (t : Channels) (end : End) (side : Side) (before : Past)
-        (p : Packing) (ch n : ℕ)
-        → PacksBoth l t end side before p
+        (p : Packing) (ch n : ℕ) → PacksBoth l t end side before p
         → has_arrived (sent_now p) ch n ≡ has_arrived p.past ch n }
     ensures state { (l : Link) (t : Channels) (end : End) (side : Side) (before : Past)
         (p : Packing) (a : ℕ)
@@ -53,6 +53,7 @@ pub fn packets_change_no_answer()
     ensures index { (l : Link) (t : Channels) (end : End) (side : Side) (before : Past)
         (p : Packing) (a : ℕ)
         → PacksBoth l t end side before p → index_of (sent_now p) a ≡ index_of p.past a }
-    ensures free { (l : Link) (t : Channels) (end : End) (side : Side) (before : Past) (p : Packing)
-        → PacksBoth l t end side before p → free_index (sent_now p) ≡ free_index p.past }
+    ensures free { (l : Link) (t : Channels) (end : End) (side : Side) (before : Past)
+        (p : Packing) → PacksBoth l t end side before p
+        → free_index (sent_now p) ≡ free_index p.past }
 {}

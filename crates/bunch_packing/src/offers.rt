@@ -1,14 +1,14 @@
 // Bunches that are offered to the packets of a tick.
 ghost use Rattle.std.specs.Prelude.{◌≡◌, ◌⊎◌, ◌<◌, ◌≤◌, ℕ, true, false, not, Some, IsErr, IfOk, OnOk, OnErr, length};
 ghost use Rattle.protocol_model.specs.Limits.{part_bits};
-ghost use Rattle.protocol_model.specs.Packet.{Sends, channel_limit};
+ghost use Rattle.protocol_model.specs.Packet.{channel_limit};
 ghost use Rattle.protocol_model.specs.Payload.{Message, message_bits};
 ghost use Rattle.protocol_model.specs.Side.{Side};
 ghost use Rattle.connection_model.specs.Feed.{End, Past, Item};
 ghost use Rattle.connection_model.specs.Items.{loose_item, carrying_item, due_items};
 ghost use Rattle.connection_model.specs.Pack.{Packing, rec_of, has_room, after_offer};
 ghost use Rattle.bit_io.specs.Lent.{slice_bits};
-ghost use Rattle.packet_codec.specs.Values.{bunch_of};
+ghost use Rattle.packet_codec.specs.Values.{bunch_of, rec_of as rec_value};
 ghost use Rattle.packing_laws.specs.Beginning.{after_offers};
 ghost use Rattle.link_end.specs.Rests.{IsSpent};
 ghost use Rattle.link_end.specs.Packs.{Packs};
@@ -21,22 +21,22 @@ use channel_table::{Bunch, ChannelTable};
 use link_end::{LinkEnd, OfferRefusal, Rec};
 use protocol_model::Part;
 
-/// Offers a bunch that has a spelling, and answers the number of its packet; `None` where it found
+/// Offers an entry that has a spelling, and answers the number of its packet; `None` where it found
 /// no room.
-fn offer(link: &mut LinkEnd, bunch: Bunch<'_>) -> Result<Option<u64>, Memory>
+pub(crate) fn offer(link: &mut LinkEnd, rec: &Rec) -> Result<Option<u64>, Memory>
     requires begun { IsSpent link.old ⊎ ((end : End) × (before : Past) × (p : Packing)
         × Packs link.old end before p × (p.full ≡ false)
-        × IsPackable end.version (Sends (bunch_of bunch))) }
+        × IsPackable end.version (rec_value rec.now)) }
     ensures after { IsSpent link.old → IsErr result }
     ensures packet { IfOk result (λ packet. (end : End) (before : Past) (p : Packing) (item : Item)
-        → Packs link.old end before p → rec_of item ≡ Sends (bunch_of bunch.entry)
+        → Packs link.old end before p → rec_of item ≡ rec_value rec.now
         → packet ≡ packet_for end p item) }
     ensures packs { OnOk result ((end : End) (before : Past) (p : Packing) (item : Item)
-        → Packs link.old end before p → rec_of item ≡ Sends (bunch_of bunch.entry)
+        → Packs link.old end before p → rec_of item ≡ rec_value rec.now
         → Packs link.new end before (after_offer end p item)) }
     ensures spent { OnErr result (IsSpent link.new) }
 {
-    match link.offer(&Rec::Bunch(bunch)) {
+    match link.offer(rec) {
         Ok(packet) => Ok(Some(packet)),
         Err(OfferRefusal::NoRoom) => Ok(None),
         Err(OfferRefusal::Memory) => Err(Memory),
@@ -69,7 +69,7 @@ pub fn offer_loose(
         → PacksBoth link.new t end side before (after_offer end p (loose_item message channel))) }
     ensures spent { OnErr result (IsSpent link.new) }
 {
-    let packet = offer(link, loose(channel, payload))?;
+    let packet = offer(link, &Rec::Bunch(loose(channel, payload)))?;
     Ok(packet)
 }
 
@@ -121,7 +121,7 @@ pub fn offer_made(
     let Some(bunch) = table.bunch(channel, n) else {
         return Err(Memory);
     };
-    let Some(packet) = offer(link, bunch)? else {
+    let Some(packet) = offer(link, &Rec::Bunch(bunch))? else {
         return Ok(false);
     };
     table.carried(channel, n, packet);

@@ -79,8 +79,8 @@ fn due(link: &mut LinkEnd, table: &mut ChannelTable) -> Result<bool, Memory>
     Ok(kept)
 }
 
-/// Offers what is due, and then so many unreliable bunches: whether all that was due was packed, and
-/// how many of the others were.
+/// Offers what is due, and then so many unreliable bunches: whether all that was due was packed,
+/// and how many of the others were.
 fn offer_all(
     alloc: Global,
     link: &mut LinkEnd,
