@@ -17,9 +17,9 @@
 // It stands on `class_layout` for values and the classes whose initial ones a copy begins with, on
 // `payload_reading` for the classes by which payloads are read, and on the laws of copies in
 // `payload_laws`. It promises that copies that stood for a past (`Stands`) stand for it with each
-// payload that is applied, so that each has the values that were applied last; that each is found by
-// its actor and by its channel; and that want of memory changes none. It reads no bits, and knows
-// neither bunches nor names: that a channel is free for an open is the caller's to see.
+// payload that is applied, so that each has the values that were applied last; that each is found
+// by its actor and by its channel; and that want of memory changes none. It reads no bits, and
+// knows neither bunches nor names: that a channel is free for an open is the caller's to see.
 #![tactic(auto)]
 
 mod apply;

@@ -1,10 +1,10 @@
 -- Reading exports segment by segment.
-use Rattle.std.proofs.Common.{◌≡◌, ℕ, zero, suc, ◌+◌, ◌-◌, ◌<◌, ◌≤◌, List, [], ◌∷◌, ◌++◌, length, Bool, true, false, Option, Some, None, Result, Ok, Err, append_assoc, append-nil, refl, sym, ap, ◌∙◌, subst, arith}
+use Rattle.std.proofs.Common.{◌≡◌, ℕ, zero, suc, ◌+◌, ◌-◌, ◌<◌, ◌≤◌, List, [], ◌∷◌, ◌++◌, length, Bool, Option, Some, None, Result, Ok, Err, append_assoc, append-nil, refl, sym, ap, ◌∙◌, subst, arith}
 use Rattle.std.specs.List.{fold}
 use Rattle.protocol_model.specs.declared.Cause.{Cause}
 use Rattle.protocol_model.specs.Value.{Segment}
 use Rattle.protocol_model.specs.Reading.{Fault, Broken, ◌>>=◌, left}
-use Rattle.connection_model.specs.PayloadReading.{PayloadReading, segment_at, segments_at, may_fail}
+use Rattle.connection_model.specs.PayloadReading.{PayloadReading, segment_at, segments_at}
 use Rattle.connection_model.specs.Names.{learn_fault, names_with}
 use Rattle.bit_io.specs.declared.lent.BitReader.{BitReader}
 use Rattle.bit_io.specs.Lent.{bits_left}
@@ -12,7 +12,7 @@ use Rattle.netguid_map.specs.Names.{Stands}
 use Rattle.std.specs.Prelude.{IsErrAnd}
 use Rattle.payload_reading.specs.Reads.{Follows, behind}
 use Rattle.payload_reading.specs.declared.stop.Stop.{Stop}
-use Rattle.payload_reading.proofs.Loops.{Answer, fault_behind, behind_fault}
+use Rattle.payload_reading.proofs.Loops.{Answer, behind_fault}
 use Rattle.payload_reading.proofs.Stops.{StopsAs}
 use Rattle.client_payloads.specs.Learning.{Kept, Learns, IsLearning}
 

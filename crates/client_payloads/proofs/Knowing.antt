@@ -1,12 +1,11 @@
 -- What is read by the copies that are kept is what is read after the past for which they stand.
-use Rattle.std.proofs.Common.{◌≡◌, ℕ, ◌==◌, List, map, length, Bool, true, false, cond, not, ◌&&◌, ◌||◌, nat_lt, Option, Some, None, is_some, is_none, option_map, option_and_then, unwrap_or, Result, Ok, Err, refl, sym, ap, ◌∙◌}
+use Rattle.std.proofs.Common.{◌≡◌, ℕ, ◌==◌, List, length, Bool, true, false, cond, not, ◌&&◌, ◌||◌, nat_lt, Option, Some, None, is_some, is_none, option_map, option_and_then, unwrap_or, Result, Ok, Err, refl, sym, ap, ◌∙◌}
 use Rattle.std.specs.List.{fold}
 use Rattle.protocol_model.specs.Limits.{copy_limit}
 use Rattle.protocol_model.specs.declared.Cause.{Cause}
 use Rattle.protocol_model.specs.declared.Cause.TheVariants.{UnknownGuid, BadChannel, Clash, ActorsFull}
-use Rattle.protocol_model.specs.Reading.{Fault, Reading, ◌>>=◌, give, bit_at}
+use Rattle.protocol_model.specs.Reading.{Fault, ◌>>=◌, give, bit_at}
 use Rattle.protocol_model.specs.Value.{Class, Pair, Segment, goes_down}
-use Rattle.protocol_model.specs.World.{class_at}
 use Rattle.protocol_model.specs.Packet.{Bunch}
 use Rattle.protocol_model.specs.Payload.{Message, Updates, Gone, Opens, Closes}
 use Rattle.connection_model.specs.Feed.{Past}

@@ -1,5 +1,5 @@
 -- Reading a client's payloads step by step.
-use Rattle.std.proofs.Common.{◌≡◌, ℕ, ◌<◌, ◌==◌, List, [], ◌∷◌, Bool, true, false, cond, Option, Some, None, option_map, option_and_then, unwrap_or, Result, Ok, Err, refl, sym, ap, ◌∙◌, subst}
+use Rattle.std.proofs.Common.{◌≡◌, ℕ, List, Bool, Option, Some, option_map, unwrap_or, Result, Ok, Err, refl, sym, ap, ◌∙◌}
 use Rattle.std.specs.List.{fold}
 use Rattle.connection_model.specs.Names.{names_with}
 use Rattle.bit_io.specs.declared.lent.BitReader.{BitReader}
@@ -12,7 +12,7 @@ use Rattle.client_payloads.specs.Learning.{Kept, Learns}
 use Rattle.client_payloads.specs.Messages.{class_held, IsOpenRead}
 use Rattle.protocol_model.specs.declared.Cause.{Cause}
 use Rattle.protocol_model.specs.declared.Cause.TheVariants.{UnknownGuid, BadChannel}
-use Rattle.protocol_model.specs.Reading.{Fault, Broken, ◌>>=◌, give}
+use Rattle.protocol_model.specs.Reading.{Fault, ◌>>=◌, give}
 use Rattle.protocol_model.specs.Value.{Class, Pair, Segment, goes_down}
 use Rattle.protocol_model.specs.World.{class_at}
 use Rattle.protocol_model.specs.Payload.{Message, Opens, Updates}

@@ -1,5 +1,5 @@
 -- What was read, as the messages of the definitions.
-use Rattle.std.specs.Prelude.{◌≡◌, ◌∷◌, ℕ, Bool, List, [], Option, Some, None, Result, Ok, Err, unwrap_or, option_map, ⊤}
+use Rattle.std.specs.Prelude.{◌≡◌, ◌∷◌, ℕ, Bool, List, [], Some, None, Result, Ok, Err, unwrap_or, option_map, ⊤}
 use Rattle.std.specs.List.{fold}
 use Rattle.protocol_model.specs.Value.{Class, Segment}
 use Rattle.protocol_model.specs.World.{class_at}

@@ -1,11 +1,11 @@
 -- The readings of payloads at a client, by the copies that it keeps and the names that it learnt.
-use Rattle.std.specs.Prelude.{ℕ, ◌==◌, List, length, Bool, true, false, not, ◌&&◌, ◌||◌, nat_lt, Option, Some, None, is_some, is_none, option_map, option_and_then, unwrap_or, if◌then◌else◌}
+use Rattle.std.specs.Prelude.{ℕ, ◌==◌, List, length, Bool, false, not, ◌||◌, nat_lt, Option, Some, None, is_some, is_none, option_map, option_and_then, unwrap_or, if◌then◌else◌}
 use Rattle.std.specs.List.{fold}
 use Rattle.protocol_model.specs.Limits.{copy_limit}
 use Rattle.protocol_model.specs.Value.{Class, Segment, goes_down}
 use Rattle.protocol_model.specs.World.{class_at}
 use Rattle.protocol_model.specs.Reading.{◌>>=◌, give, bit_at}
-use Rattle.protocol_model.specs.Payload.{Message, Opens, Closes, Updates, Calls, Gone}
+use Rattle.protocol_model.specs.Payload.{Message, Opens, Closes, Updates, Gone}
 use Rattle.protocol_model.specs.declared.Cause.{Cause}
 use Rattle.protocol_model.specs.declared.Cause.TheVariants.{UnknownGuid, BadChannel, Clash, ActorsFull}
 use Rattle.connection_model.specs.PayloadReading.{PayloadReading, field, unless, number_at, actor_at, end_at, class_or, call_at_end, some_values_at, values_at, exports_at, is_elsewhere, is_other_class}

@@ -10,17 +10,17 @@
 //
 //     let mut reader = bits.reader();
 //     if first.opens {
-//         let read = open(alloc, &mut reader, classes, &mut names, &copies, channel, first.exports)?;
+//         let read = open(alloc, &mut reader, classes, &mut names, &copies, channel, exports)?;
 //         copies.open(classes, channel, read)?;
 //     } else {
 //         match unopened(alloc, &mut reader, classes, &copies, first)? { .. }
 //     }
 //
-// It stands on `payload_reading` for the fields, on `netguid_map` for the names that opens export and
-// on `actor_copies` for what is known of actors. It promises that what is read, and the first broken
-// rule with the bits that were left there and its cause, are those of the definitions after every
-// past for which copies and names stand; and that an open learns its exports, up to the first that is
-// refused. It reads from the bits where they lie, and changes no copy.
+// It stands on `payload_reading` for the fields, on `netguid_map` for the names that opens export
+// and on `actor_copies` for what is known of actors. It promises that what is read, and the first
+// broken rule with the bits that were left there and its cause, are those of the definitions after
+// every past for which copies and names stand; and that an open learns its exports, up to the
+// first that is refused. It reads from the bits where they lie, and changes no copy.
 #![tactic(auto)]
 
 mod exports;

@@ -24,9 +24,9 @@ use std::alloc::Global;
 /// An open that came on a channel: its exports are learnt, where its flag says that there are some,
 /// and it is read by the names that are known then. The class that it answers is one of the table.
 ///
-/// In this order: the causes of a name (`UnknownGuid` of its outer, `Clash`, `NamesFull`); `Clash` of
-/// an actor whose copy is on another channel; `ActorsFull` at the 8,193rd copy; `UnknownGuid` of what
-/// names no class; `Clash` of an actor whose copy is of another class.
+/// In this order: the causes of a name (`UnknownGuid` of its outer, `Clash`, `NamesFull`); `Clash`
+/// of an actor whose copy is on another channel; `ActorsFull` at the 8,193rd copy; `UnknownGuid`
+/// of what names no class; `Clash` of an actor whose copy is of another class.
 pub fn open(
     alloc: Global,
     reader: &mut BitReader<'_>,

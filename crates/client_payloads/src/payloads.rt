@@ -44,8 +44,8 @@ pub struct First {
 
 /// A payload that doesn't open, by the channel and the flags of its first bunch.
 ///
-/// `UnknownGuid` comes for a Gone of an actor without a sleeping copy and for a call of one without a
-/// copy, `BadChannel` for an update of a channel that no copy holds.
+/// `UnknownGuid` comes for a Gone of an actor without a sleeping copy and for a call of one
+/// without a copy, `BadChannel` for an update of a channel that no copy holds.
 pub fn unopened(
     alloc: Global,
     reader: &mut BitReader<'_>,

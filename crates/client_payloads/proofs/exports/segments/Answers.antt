@@ -1,4 +1,4 @@
-use Rattle.std.proofs.Common.{◌≡◌, ℕ, ◌<◌, List, Ok, Err, sym, ap, ◌∙◌, subst, arith, length}
+use Rattle.std.proofs.Common.{◌≡◌, ℕ, ◌<◌, List, Ok, Err, sym, subst, length}
 use Rattle.std.specs.Prelude.{IsErrAnd, Result}
 use Rattle.protocol_model.specs.Value.{Segment}
 use Rattle.connection_model.specs.PayloadReading.{segment_at, segments_at}
@@ -8,7 +8,7 @@ use Rattle.netguid_map.specs.Names.{Stands}
 use Rattle.payload_reading.specs.Values.{segment_value}
 use Rattle.payload_reading.specs.declared.stop.Stop.{Stop}
 use Rattle.client_payloads.specs.Learning.{Kept, Learns, IsLearning}
-use Rattle.client_payloads.proofs.ExportSteps.{LearntSoFar, SoFar, next_turn, turn_stops, turn_refused, learns_stops}
+use Rattle.client_payloads.proofs.ExportSteps.{LearntSoFar, next_turn, turn_stops, turn_refused, learns_stops}
 use Rattle.client_payloads.proofs.exports.segments.Goals as goal
 
 pub returns-in_err-segment : goal.returns-in_err-segment

@@ -1,4 +1,4 @@
-use Rattle.std.proofs.Common.{◌≡◌, ℕ, List, sym, ap, ◌∙◌}
+use Rattle.std.proofs.Common.{ℕ, List, sym, ap, ◌∙◌}
 use Rattle.protocol_model.specs.Value.{Class, class_guid}
 use Rattle.client_payloads.specs.Messages.{last_of}
 use Rattle.client_payloads.proofs.Tables.{guid_is_last}

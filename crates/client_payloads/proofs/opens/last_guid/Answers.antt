@@ -1,4 +1,4 @@
-use Rattle.std.proofs.Common.{◌≡◌, ℕ, zero, suc, ◌+◌, ◌-◌, ◌<◌, List, [], ◌∷◌, Some, length, sym, ap, ◌∙◌, arith, slice_get}
+use Rattle.std.proofs.Common.{◌≡◌, ℕ, zero, suc, ◌+◌, ◌-◌, List, [], ◌∷◌, Some, length, ◌∙◌, arith, slice_get}
 use Rattle.client_payloads.specs.Messages.{last_of}
 use Rattle.client_payloads.proofs.opens.last_guid.Goals as goal
 

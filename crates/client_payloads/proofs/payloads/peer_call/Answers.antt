@@ -1,9 +1,8 @@
-use Rattle.std.proofs.Common.{◌≡◌, ℕ, ◌<◌, length, List, Bool, false, Ok, cond, sym, ap, ◌∙◌, subst}
-use Rattle.protocol_model.specs.Value.{Class, goes_up, goes_down}
-use Rattle.protocol_model.specs.World.{class_at}
+use Rattle.std.proofs.Common.{◌≡◌, length, Ok, sym, ◌∙◌, subst}
+use Rattle.protocol_model.specs.Value.{Class, goes_down}
 use Rattle.connection_model.specs.PayloadReading.{call_at_end}
 use Rattle.bit_io.specs.Lent.{bits_left}
-use Rattle.class_layout.specs.Tables.{class_of, table_in}
+use Rattle.class_layout.specs.Tables.{class_of}
 use Rattle.payload_reading.specs.Values.{call_message}
 use Rattle.payload_reading.proofs.Stops.{stops}
 use Rattle.client_payloads.specs.Readings.{call_in}

@@ -1,7 +1,7 @@
-use Rattle.std.proofs.Common.{◌≡◌, ℕ, ◌<◌, length, List, Bool, Ok, sym, ap, ◌∙◌, subst}
+use Rattle.std.proofs.Common.{length, sym}
 use Rattle.connection_model.specs.PayloadReading.{some_values_at, end_at}
 use Rattle.bit_io.specs.Lent.{bits_left}
-use Rattle.class_layout.specs.Tables.{class_of, table_in}
+use Rattle.class_layout.specs.Tables.{class_of}
 use Rattle.payload_reading.specs.Reads.{itself}
 use Rattle.payload_reading.specs.Values.{pair_values}
 use Rattle.payload_reading.proofs.Stops.{stops}
