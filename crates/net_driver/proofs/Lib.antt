@@ -1,0 +1,13 @@
+mod Answers
+mod Chairs
+mod Spawns
+mod Seats
+mod Joining
+mod Editing
+mod CallAnswers
+mod Leaving
+mod Placing
+mod InMemory
+mod CallHeard
+mod Meaning
+mod CallServed

@@ -1,0 +1,19 @@
+use Rattle.std.proofs.Common.{◌≡◌, List, [], sym, subst, arith}
+use Rattle.class_layout.specs.Tables.{table_in}
+use Rattle.net_driver.specs.declared.chair.Chair.{Chair}
+use Rattle.net_driver.specs.Serves.{AreSeated}
+use Rattle.net_driver.proofs.driver.Driver.new.Goals as goal
+
+pub returns-clause-serves : goal.returns-clause-serves
+returns-clause-serves c = record {
+  world = search;
+  layout = search;
+  graph = c.in_ok-graph.ensures.stands (table_in c.args.classes.now);
+  changes = c.new-3.ensures;
+  from_one = λ a. tt;
+  seated = subst (λ (cs : List Chair). AreSeated (table_in c.args.classes.now) [] [] 0 c.new-4.result.slots cs [])
+      (sym c.new-5.ensures.items) tt;
+  rising = search;
+  few = omega arith;
+  kept = search;
+}
