@@ -49,14 +49,23 @@ newest_has samples tick from (suc count) before i t lo hi e = elim (cases_eq fro
     rest = filter_map (change_of samples tick) (range_with_len (from + 1) count)
 
     here : (o : Option ℕ) → o ≡ Some t
-        → t ≤ newest_in before (cons_option (option_map (λ (noted : ℕ). let c : Change = record { handle = handle_of from; tick = noted } in c) o) (filter_map (change_of samples tick) (range_with_len (from + 1) count)))
+        → t ≤ newest_in before (cons_option (option_map (λ (noted : ℕ). let c : Change =
+        record { handle = handle_of from; tick = noted } in c) o)
+        (filter_map (change_of samples tick) (range_with_len (from + 1) count)))
     here None e = absurd (let no : (let o : Option ℕ = None in o) ≡ Some t = e in cc)
     here (Some n) e =
-        (let s : n ≡ t = cc in omega (arith, s, newest_low (max before n) (filter_map (change_of samples tick) (range_with_len (from + 1) count))))
+        (let s : n ≡ t = cc in omega (
+          arith,
+          s,
+          newest_low (max before n)
+              (filter_map (change_of samples tick) (range_with_len (from + 1) count)),
+        ))
 
     there : (o : Option ℕ)
         → ((b : ℕ) → t ≤ newest_in b (filter_map (change_of samples tick) (range_with_len (from + 1) count)))
-        → t ≤ newest_in before (cons_option (option_map (λ (noted : ℕ). let c : Change = record { handle = handle_of from; tick = noted } in c) o) (filter_map (change_of samples tick) (range_with_len (from + 1) count)))
+        → t ≤ newest_in before (cons_option (option_map (λ (noted : ℕ). let c : Change =
+        record { handle = handle_of from; tick = noted } in c) o)
+        (filter_map (change_of samples tick) (range_with_len (from + 1) count)))
     there None ih = ih before
     there (Some n) ih = ih (max before n)
 
@@ -68,8 +77,11 @@ newest_most samples tick from (suc count) before turn low =
     by (noted_tick samples tick from) refl (λ b le. newest_most samples tick (from + 1) count b turn le)
   where
     by : (o : Option ℕ) → noted_tick samples tick from ≡ o
-        → ((b : ℕ) → b ≤ tick_now samples → newest_in b (filter_map (change_of samples tick) (range_with_len (from + 1) count)) ≤ tick_now samples)
-        → newest_in before (cons_option (option_map (λ (noted : ℕ). let c : Change = record { handle = handle_of from; tick = noted } in c) o) (filter_map (change_of samples tick) (range_with_len (from + 1) count))) ≤ tick_now samples
+        → ((b : ℕ) → b ≤ tick_now samples → newest_in b (filter_map (change_of samples tick)
+        (range_with_len (from + 1) count)) ≤ tick_now samples)
+        → newest_in before (cons_option (option_map (λ (noted : ℕ). let c : Change =
+        record { handle = handle_of from; tick = noted } in c) o)
+        (filter_map (change_of samples tick) (range_with_len (from + 1) count))) ≤ tick_now samples
     by None e ih = ih before low
     by (Some n) e ih = ih (max before n) (omega (arith, low, noted_most samples tick from n turn e))
 
@@ -80,24 +92,33 @@ unnamed : (samples : List Sample) (tick from count i : ℕ) → from ≤ i → i
 unnamed samples tick from zero i lo hi e = absurd (omega arith)
 unnamed samples tick from (suc count) i lo hi e = elim (cases_eq from i) [
   | inl q ↦ subst (λ (n : ℕ). noted_tick samples tick n ≡ None) q
-      (here (noted_tick samples tick from) (ap (λ (n : ℕ). names_in (filter_map (change_of samples tick) (range_with_len from (suc count))) (handle_of n)) q ∙ e))
+      (here (noted_tick samples tick from) (ap (λ (n : ℕ). names_in
+      (filter_map (change_of samples tick) (range_with_len from (suc count))) (handle_of n)) q ∙ e))
   | inr q ↦ there (noted_tick samples tick from) e
       (λ f. unnamed samples tick (from + 1) count i (omega arith) (omega arith) f)
 ]
   where
     here : (o : Option ℕ)
-        → names_in (cons_option (option_map (λ (noted : ℕ). let c : Change = record { handle = handle_of from; tick = noted } in c) o) (filter_map (change_of samples tick) (range_with_len (from + 1) count))) (handle_of from) ≡ false
+        → names_in (cons_option (option_map (λ (noted : ℕ). let c : Change =
+        record { handle = handle_of from; tick = noted } in c) o)
+        (filter_map (change_of samples tick) (range_with_len (from + 1) count))) (handle_of from) ≡ false
         → o ≡ None
     here None e = refl
     here (Some n) e =
-        absurd (false≢true (sym e ∙ ap (λ (b : Bool). b || names_in (filter_map (change_of samples tick) (range_with_len (from + 1) count)) (handle_of from)) (eq-eqb (handle_of from) (handle_of from) refl)))
+        absurd (false≢true (sym e ∙ ap (λ (b : Bool). b || names_in
+        (filter_map (change_of samples tick) (range_with_len (from + 1) count)) (handle_of from))
+        (eq-eqb (handle_of from) (handle_of from) refl)))
 
     there : (o : Option ℕ)
-        → names_in (cons_option (option_map (λ (noted : ℕ). let c : Change = record { handle = handle_of from; tick = noted } in c) o) (filter_map (change_of samples tick) (range_with_len (from + 1) count))) (handle_of i) ≡ false
-        → (names_in (filter_map (change_of samples tick) (range_with_len (from + 1) count)) (handle_of i) ≡ false → noted_tick samples tick i ≡ None) → noted_tick samples tick i ≡ None
+        → names_in (cons_option (option_map (λ (noted : ℕ). let c : Change =
+        record { handle = handle_of from; tick = noted } in c) o)
+        (filter_map (change_of samples tick) (range_with_len (from + 1) count))) (handle_of i) ≡ false
+        → (names_in (filter_map (change_of samples tick) (range_with_len (from + 1) count)) (handle_of i) ≡ false
+        → noted_tick samples tick i ≡ None) → noted_tick samples tick i ≡ None
     there None e ih = ih e
     there (Some n) e ih =
-        ih ((or_parts (handle_of from == handle_of i) (names_in (filter_map (change_of samples tick) (range_with_len (from + 1) count)) (handle_of i)) e).1)
+        ih ((or_parts (handle_of from == handle_of i) (names_in
+        (filter_map (change_of samples tick) (range_with_len (from + 1) count)) (handle_of i)) e).1)
 
 -- ---- as they are given
 
@@ -110,7 +131,12 @@ pub newest_within : (samples : List Sample) (tick before : ℕ) (changes : List 
     → map change_value changes ≡ changes_since samples tick → AreInTurn samples → before ≤ tick_now samples
     → newest_change before changes ≤ tick_now samples
 newest_within samples tick before changes is turn low =
-    omega (arith, same_newest before changes ∙ ap (newest_in before) is, newest_most samples tick 0 (value_count samples) before turn low)
+    omega (
+      arith,
+      same_newest before changes ∙ ap (newest_in before) is,
+      newest_most samples tick 0
+          (value_count samples) before turn low,
+    )
 
 -- once they were looked at nothing is noted above the newest
 pub current : (samples : List Sample) (tick : ℕ) (changes : List ChangeValue)
@@ -125,7 +151,12 @@ current samples tick changes is turn i lt = by (noted_tick samples tick i) refl
     by None e = noted_less samples tick (newest_change tick changes) i (newest_above tick changes) e
     by (Some t) e =
         noted_last samples tick (newest_change tick changes) i t turn (newest_above tick changes) e
-        (omega (arith, newest, newest_has samples tick 0 (value_count samples) tick i t (omega arith) (omega (arith, lt)) e))
+        (omega (
+          arith,
+          newest,
+          newest_has samples tick 0 (value_count samples) tick i t (omega arith)
+              (omega (arith, lt)) e,
+        ))
 
 handle_there : (h : ℕ) → 1 ≤ h → h ≢ 3 → handle_of (place_of h) ≡ h
 handle_there h lo ne = by (nat_lt h 3) refl
@@ -139,7 +170,8 @@ handle_there h lo ne = by (nat_lt h 3) refl
     by : (b : Bool) → nat_lt h 3 ≡ b → handle_of (cond b (h - 1) (h - 2)) ≡ h
     by true e = ap (λ (b : Bool). cond b (h - 1 + 1) (h - 1 + 2)) (small h lo (ltb-true h 3 e)) ∙ omega arith
     by false e =
-        (let hi : 3 ≤ h = ltb-false h 3 e in ap (λ (b : Bool). cond b (h - 2 + 1) (h - 2 + 2)) (large h hi ne) ∙ omega arith)
+        (let hi : 3 ≤ h = ltb-false h 3 e in ap (λ (b : Bool). cond b (h - 2 + 1) (h - 2 + 2)) (large h hi ne)
+        ∙ omega arith)
 
 -- a value that isn't named is as it was compared
 pub unnamed_stays : (samples : List Sample) (tick h : ℕ) (changes : List ChangeValue)
@@ -149,4 +181,5 @@ pub unnamed_stays : (samples : List Sample) (tick h : ℕ) (changes : List Chang
 unnamed_stays samples tick h changes is lo ne lt e =
     value_stays samples tick (place_of h)
     (unnamed samples tick 0 (value_count samples) (place_of h) (omega arith) (omega (arith, lt))
-    (ap (λ (n : ℕ). names_in (changes_since samples tick) n) (handle_there h lo ne) ∙ ap (λ (cs : List Change). names_in cs h) (sym is) ∙ sym (same_names changes h) ∙ e))
+    (ap (λ (n : ℕ). names_in (changes_since samples tick) n) (handle_there h lo ne)
+    ∙ ap (λ (cs : List Change). names_in cs h) (sym is) ∙ sym (same_names changes h) ∙ e))

@@ -40,7 +40,8 @@ use Rattle.sender_records.proofs.HandleSteps.{handle_same, sampled_keeps, handle
 pub life_like : (past later : Past) (a : ℕ) (l : Life) → SameArrivals past later → last_mark later a ≡ last_mark past a
     → was_opened later a ≡ was_opened past a
     → kept_flush later a ≡ kept_flush past a
-    → (is_pending (state_value l.state) ≡ true → (mark : Mark) → last_mark past a ≡ Some mark → made_count later mark.channel ≡ made_count past mark.channel)
+    → (is_pending (state_value l.state) ≡ true → (mark : Mark) → last_mark past a ≡ Some mark
+    → made_count later mark.channel ≡ made_count past mark.channel)
     → KeepsLife past a l → KeepsLife later a l
 life_like past later a l arrivals mark opened flush count h = record {
   state = h.state ∙ sym (state_same past later arrivals a mark);
@@ -98,10 +99,15 @@ life_made : (sent past : Past) (ch : ℕ) (m : Message) (a : ℕ) (l : Life) →
     → KeepsLife (sent ++ past) a l → KeepsLife (sent ++ after_making past ch m) a l
 life_made sent past ch m a l e unmarked apart k =
     life_like (sent ++ past) (sent ++ after_making past ch m) a l (arrivals_under sent past ch m)
-    (mark_under sent past e ch m a ∙ ap (λ (b : Bool). cond b (Some (record { channel = ch; number = made_count past ch + 1; message = m })) (last_mark (sent ++ past) a)) unmarked)
+    (mark_under sent past e ch m a ∙ ap (λ (b : Bool). cond b
+    (Some (record { channel = ch; number = made_count past ch + 1; message = m })) (last_mark (sent ++ past) a))
+    unmarked)
     (opened_under sent past e ch m a ∙ ap (λ (b : Bool). b || was_opened (sent ++ past) a) (unmarked_open a m unmarked))
-    (flush_under sent past e ch m a ∙ ap (λ (b : Bool). cond b (flush_seen (sent ++ past) a) (kept_flush (sent ++ past) a)) (unmarked_sleep a m unmarked))
-    (λ p mark is. count_elsewhere sent past e ch m mark.channel (λ q. apart (ap is_pending (sym k.state) ∙ p) (there mark is p ∙ ap (λ (n : ℕ). let o : Option ℕ = Some n in o) (sym q)))) k
+    (flush_under sent past e ch m a ∙ ap (λ (b : Bool). cond b (flush_seen (sent ++ past) a)
+    (kept_flush (sent ++ past) a)) (unmarked_sleep a m unmarked))
+    (λ p mark is. count_elsewhere sent past e ch m mark.channel
+    (λ q. apart (ap is_pending (sym k.state) ∙ p) (there mark is p
+    ∙ ap (λ (n : ℕ). let o : Option ℕ = Some n in o) (sym q)))) k
   where
     pending_holds : (s : ActorState) → is_pending s ≡ true → holds_index s ≡ true
     pending_holds Opening p = refl
@@ -146,7 +152,8 @@ pub actor_alike : (past later : Past) (samples : List Sample) (a : ℕ) (r : Act
     → KeepsActor past samples a r → KeepsActor later samples a r
 actor_alike past later samples a r h k =
     actor_like past later samples a r (life_alike past later a r.life h k.life)
-    (service_same past later a r.service (ticks_alike past later h.done) (sight_alike past later h.done) (service_alike past later h.done a) k.service)
+    (service_same past later a r.service (ticks_alike past later h.done) (sight_alike past later h.done)
+    (service_alike past later h.done a) k.service)
     (carry_alike past later h.done a) h.moved (omega (arith, ap length (ticks_alike past later h.done))) k
 
 -- a tick whose sight shows it neither as relevant nor as owned
@@ -167,7 +174,8 @@ actor_begun n t past samples a r k =
     (service_same past (Sent n t [] ∷ past) a r.service refl refl refl k.service) (λ h. refl) refl (omega arith) k
 
 -- an item that is no update of the actor
-pub actor_sent : (n t : ℕ) (items : List Item) (item : Item) (past : Past) (samples : List Sample) (a : ℕ) (r : ActorRecord)
+pub actor_sent : (n t : ℕ) (items : List Item) (item : Item) (past : Past) (samples : List Sample) (a : ℕ)
+    (r : ActorRecord)
     → high_of past < n
     → CarriesAwaited (Sent n t items ∷ past) item → is_update_of a item ≡ false
     → KeepsActor (Sent n t items ∷ past) samples a r → KeepsActor (Sent n t (items ++ item ∷ []) ∷ past) samples a r
@@ -175,7 +183,8 @@ actor_sent n t items item past samples a r new awaited other k =
     actor_like (Sent n t items ∷ past) (Sent n t (items ++ item ∷ []) ∷ past) samples a r
     (life_sent n t items item past a r.life new awaited k.life)
     (service_same (Sent n t items ∷ past) (Sent n t (items ++ item ∷ []) ∷ past) a r.service refl refl
-    (service_sent n t items item past a ∙ ap (λ (b : Bool). cond b (Some t) (last_service (Sent n t items ∷ past) a)) other) k.service)
+    (service_sent n t items item past a ∙ ap (λ (b : Bool). cond b (Some t) (last_service (Sent n t items ∷ past) a))
+    other) k.service)
     (λ h. sends.carry_kept n t items item past a h other) refl (omega arith) k
 
 -- a message that is made, and isn't the actor's open, close or Gone
@@ -186,7 +195,8 @@ pub actor_made : (sent past : Past) (ch : ℕ) (m : Message) (samples : List Sam
 actor_made sent past ch m samples a r e unmarked apart k =
     actor_like (sent ++ past) (sent ++ after_making past ch m) samples a r
     (life_made sent past ch m a r.life e unmarked apart k.life)
-    (service_same (sent ++ past) (sent ++ after_making past ch m) a r.service (ticks_under sent past ch m) (sight_under sent past ch m)
+    (service_same (sent ++ past) (sent ++ after_making past ch m) a r.service (ticks_under sent past ch m)
+    (sight_under sent past ch m)
     (service_elsewhere sent past e ch m a (unmarked_open a m unmarked)) k.service)
     (λ h. carry_elsewhere sent past e ch m a h (unmarked_open a m unmarked)) (moved_under sent past ch m)
     (omega (arith, ap length (ticks_under sent past ch m))) k

@@ -37,7 +37,8 @@ pub opened_keeps : (sent past : Past) → are_sent sent ≡ true
     → (ch : ℕ) (exports : List Segment) (a : ℕ) (class : Class) (values : List Pair) → has_update a sent ≡ false
     → (samples : List Sample) (compared tick h : ℕ) (updatable : Bool) → 1 ≤ tick
     → ((v : ℤ) → value_among values h ≡ Some v → h ≢ 3 → value_by samples compared (place_of h) ≡ Some v)
-    → KeepsHandle (sent ++ after_making past ch (Opens exports a class values)) samples a compared tick h (by_value (handle_opened tick updatable) no_handle (value_among values h))
+    → KeepsHandle (sent ++ after_making past ch (Opens exports a class values)) samples a compared tick h
+    (by_value (handle_opened tick updatable) no_handle (value_among values h))
 opened_keeps sent past e ch exports a class values none samples compared tick h updatable some now =
     by (value_among values h) (carry_opened sent past e ch exports a class values h none) now
   where
@@ -50,9 +51,17 @@ opened_keeps sent past e ch exports a class values none samples compared tick h 
 
     by : (o : Option ℤ) → carry_of (sent ++ after_making past ch (Opens exports a class values)) a h ≡ carry_in None o
         → ((v : ℤ) → o ≡ Some v → h ≢ 3 → value_by samples compared (place_of h) ≡ Some v)
-        → KeepsHandle (sent ++ after_making past ch (Opens exports a class values)) samples a compared tick h (by_value (handle_opened tick updatable) no_handle o)
+        → KeepsHandle (sent ++ after_making past ch (Opens exports a class values)) samples a compared tick h
+        (by_value (handle_opened tick updatable) no_handle o)
     by None c now =
-        record { carry = c; lost = refl; arrived = refl; found = λ ne m u. absurd (omega (arith, some, u)); before = omega arith }
+        record {
+          carry = c;
+          lost = refl;
+          arrived = refl;
+          found = λ ne m u. absurd (omega (arith, some, u));
+          before =
+              omega arith;
+        }
     by (Some v) c now = record {
       carry = c;
       lost = refl;
@@ -108,7 +117,8 @@ module _ (past : Past) (samples : List Sample) (a compared last h : ℕ) (k : Ha
 
   -- nor is what was compared and isn't due
   compared_sync : h ≢ 3
-      → (((k.marked || names) || (not (k.updatable_at == last) || (h == 3))) && (not k.carried || (k.lost || not (int_eq k.value v)))) ≡ false
+      → (((k.marked || names) || (not (k.updatable_at == last) || (h == 3))) &&
+      (not k.carried || (k.lost || not (int_eq k.value v)))) ≡ false
       → (k.carried ≡ true) × (k.lost ≡ false) × (k.value ≡ v)
   compared_sync ne e = by ((k.marked || names) || (not (k.updatable_at == last) || (h == 3))) refl e
     where
@@ -119,7 +129,8 @@ module _ (past : Past) (samples : List Sample) (a compared last h : ℕ) (k : Ha
       by false p e = synced ne p
 
   -- a candidate is marked exactly where it is due, and what is none isn't due
-  pub marked_due : (((k.marked || names) || (not (k.updatable_at == last) || (h == 3))) && (not k.carried || (k.lost || not (int_eq k.value v)))) ≡ is_due_handle k v
+  pub marked_due : (((k.marked || names) || (not (k.updatable_at == last) || (h == 3))) &&
+      (not k.carried || (k.lost || not (int_eq k.value v)))) ≡ is_due_handle k v
   marked_due = by ((k.marked || names) || (not (k.updatable_at == last) || (h == 3))) refl
     where
       other : ((k.marked || names) || (not (k.updatable_at == last) || (h == 3))) ≡ false → h ≢ 3
@@ -138,12 +149,15 @@ module _ (past : Past) (samples : List Sample) (a compared last h : ℕ) (k : Ha
       by false p = (let q = synced (other p) p in sym (is_in_sync k.carried k.lost k.value v q.0 q.1 q.2))
 
 -- a comparison keeps what is known of a handle, and finds again what it doesn't mark
-pub compared_keeps : (past : Past) (samples : List Sample) (a compared now last tick h : ℕ) (k : HandleRecord) (names updatable : Bool) (o : Option ℤ)
+pub compared_keeps : (past : Past) (samples : List Sample) (a compared now last tick h : ℕ) (k : HandleRecord)
+    (names updatable : Bool) (o : Option ℤ)
     → KeepsHandle past samples a compared last h k → last < tick
     → ((v : ℤ) → o ≡ Some v → h ≢ 3 → value_now samples (place_of h) ≡ Some v)
-    → ((v : ℤ) → o ≡ Some v → updatable ≡ true → h ≢ 3 → names ≡ false → value_now samples (place_of h) ≡ value_by samples compared (place_of h))
+    → ((v : ℤ) → o ≡ Some v → updatable ≡ true → h ≢ 3 → names ≡ false
+    → value_now samples (place_of h) ≡ value_by samples compared (place_of h))
     → ((v : ℤ) → o ≡ Some v → h ≢ 3 → value_now samples (place_of h) ≡ value_by samples now (place_of h))
-    → KeepsHandle past samples a now tick h (by_value (handle_compared last tick updatable (h == 3)) (handle_changed names k) o)
+    → KeepsHandle past samples a now tick h (by_value (handle_compared last tick updatable (h == 3))
+    (handle_changed names k) o)
 compared_keeps past samples a compared now last tick h k names updatable None keeps later agrees stays current =
     record {
       carry = keeps.carry;
@@ -203,7 +217,9 @@ due_is past samples a compared last h k keeps v =
     ∙ by k.carried
   where
     by : (b : Bool)
-        → is_due_after past a (record { handle = h; value = v }) (then_some b (record { packet = packet_kept k.packet; value = k.value })) ≡ (not b || (k.lost || not (int_eq k.value v)))
+        → is_due_after past a (record { handle = h; value = v })
+        (then_some b (record { packet = packet_kept k.packet; value = k.value })) ≡
+        (not b || (k.lost || not (int_eq k.value v)))
     by true = ap (λ (x : Bool). x || not (int_eq k.value v)) (fate_lost past a k.packet k.value ∙ sym keeps.lost)
     by false = refl
 
@@ -217,14 +233,18 @@ carried_by packet (Some v) k c some e =
     (sym (ne_eqb packet 0 (λ z. absurd (omega (arith, some, z)))))
 
 -- an update carries the handles that it has
-pub updated_keeps : (packet t : ℕ) (items : List Item) (class : Class) (values : List Pair) (bunch : Bunch) (past : Past) (samples : List Sample) (a compared last h : ℕ) (k : HandleRecord)
+pub updated_keeps : (packet t : ℕ) (items : List Item) (class : Class) (values : List Pair) (bunch : Bunch)
+    (past : Past) (samples : List Sample) (a compared last h : ℕ) (k : HandleRecord)
     → list_any (is_update_of a) items ≡ false → high_of past < packet
     → ((v : ℤ) → value_among values h ≡ Some v → h ≢ 3 → value_by samples compared (place_of h) ≡ Some v)
     → KeepsHandle (Sent packet t items ∷ past) samples a compared last h k
-    → KeepsHandle (Sent packet t (items ++ Loose (Updates a class values) bunch ∷ []) ∷ past) samples a compared last h (by_value (handle_carried packet) k (value_among values h))
+    → KeepsHandle (Sent packet t (items ++ Loose (Updates a class values) bunch ∷ []) ∷ past) samples a compared last h
+    (by_value (handle_carried packet) k (value_among values h))
 updated_keeps packet t items class values bunch past samples a compared last h k none new now keeps =
     by (value_among values h)
-    (carry_updated packet t items class values bunch past a h none ∙ carried_by packet (value_among values h) k (carry_of (Sent packet t items ∷ past) a h) (omega (arith, new)) keeps.carry) now
+    (carry_updated packet t items class values bunch past a h none
+    ∙ carried_by packet (value_among values h) k (carry_of (Sent packet t items ∷ past) a h)
+    (omega (arith, new)) keeps.carry) now
   where
     unlost : (b : Bool) → false ≡ (b && is_lost (fate_of past packet))
     unlost true = ap is_lost (sym (open_above past packet new))
@@ -238,7 +258,8 @@ updated_keeps packet t items class values bunch past samples a compared last h k
         → carry_of (Sent packet t (items ++ Loose (Updates a class values) bunch ∷ []) ∷ past) a h
         ≡ carry_kept (by_value (handle_carried packet) k o)
         → ((v : ℤ) → o ≡ Some v → h ≢ 3 → value_by samples compared (place_of h) ≡ Some v)
-        → KeepsHandle (Sent packet t (items ++ Loose (Updates a class values) bunch ∷ []) ∷ past) samples a compared last h (by_value (handle_carried packet) k o)
+        → KeepsHandle (Sent packet t (items ++ Loose (Updates a class values) bunch ∷ []) ∷ past) samples a compared
+        last h (by_value (handle_carried packet) k o)
     by None c now =
         record { carry = c; lost = keeps.lost; arrived = keeps.arrived; found = keeps.found; before = keeps.before }
     by (Some v) c now = record {
@@ -396,7 +417,12 @@ sampled_keeps past later samples a compared last h k above keeps = record {
   arrived = keeps.arrived;
   found = λ ne m u.
       let f : IsFound samples compared h k = keeps.found ne m u in
-      record { carried = f.carried; lost = f.lost; value = by_stays later samples compared (place_of h) above ∙ f.value };
+      record {
+        carried = f.carried;
+        lost = f.lost;
+        value = by_stays later samples compared (place_of h) above
+            ∙ f.value;
+      };
   before = keeps.before;
 }
 
@@ -415,14 +441,20 @@ carried_is past samples a compared last h k keeps v =
     opened false = refl
 
     fate : (b opens : Bool)
-        → is_arrived (elim (cond b None (Some k.packet)) [ Some packet ↦ fate_of past packet | None ↦ cond opens Arrived Open ])
+        → is_arrived (elim (cond b None (Some k.packet)) [
+          | Some packet ↦ fate_of past packet
+          | None ↦
+              cond opens Arrived Open
+        ])
         ≡ cond b opens (not b && is_arrived (fate_of past k.packet))
     fate true opens = opened opens
     fate false opens = refl
 
     by : (b : Bool)
-        → has_arrived_with past a (record { handle = h; value = v }) (then_some b (record { packet = packet_kept k.packet; value = k.value }))
+        → has_arrived_with past a (record { handle = h; value = v })
+        (then_some b (record { packet = packet_kept k.packet; value = k.value }))
         ≡ (b && (cond (k.packet == 0) (is_opened (state_of past a)) k.arrived && int_eq k.value v))
     by true = ap (λ (x : Bool). x && int_eq k.value v)
-        (fate (k.packet == 0) (is_opened (state_of past a)) ∙ ap (λ (x : Bool). cond (k.packet == 0) (is_opened (state_of past a)) x) (sym keeps.arrived))
+        (fate (k.packet == 0) (is_opened (state_of past a)) ∙ ap
+        (λ (x : Bool). cond (k.packet == 0) (is_opened (state_of past a)) x) (sym keeps.arrived))
     by false = refl

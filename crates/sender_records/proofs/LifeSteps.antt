@@ -240,7 +240,8 @@ opens_keeps sent past e made ch clear exports a class values l new h is =
     m : Message
     m = Opens exports a class values
 
-    keeps : KeepsLife (sent ++ after_making past ch (Opens exports a class values)) a (record { state = state.Opening; index = Some ch; sleeps = false; opened = true; flush = l.flush })
+    keeps : KeepsLife (sent ++ after_making past ch (Opens exports a class values)) a
+        (record { state = state.Opening; index = Some ch; sleeps = false; opened = true; flush = l.flush })
     keeps =
         let later : Past = sent ++ after_making past ch (Opens exports a class values) in
         let message : Message = Opens exports a class values in
@@ -258,7 +259,8 @@ opens_keeps sent past e made ch clear exports a class values l new h is =
         let number : mark.number - 1 ≡ made_count (sent ++ past) ch = omega (arith, same) in
         let below : have_arrived later ch 1 (mark.number - 1) ≡ true =
         have_stays (sent ++ past) later grows ch 1 (mark.number - 1)
-        (ap (have_arrived (sent ++ past) ch 1) number ∙ clear_is (sent ++ past) ch ∙ eq-eqb (span (sent ++ past) ch) 0 clear) in
+        (ap (have_arrived (sent ++ past) ch 1) number ∙ clear_is (sent ++ past) ch
+        ∙ eq-eqb (span (sent ++ past) ch) 0 clear) in
         let first : 1 ≤ mark.number = omega arith in
         let new_unarrived : has_arrived later ch mark.number ≡ false =
         arrivals_under sent past ch message ch mark.number ∙ made ch mark.number (omega (arith, same)) in
@@ -270,7 +272,8 @@ opens_keeps sent past e made ch clear exports a class values l new h is =
           state = sym state_is;
           index = sym (held_index later a mark is (ap holds_index state_is));
           opened =
-              sym (opened_under sent past e ch message a ∙ ap (λ (b : Bool). (true && b) || was_opened (sent ++ past) a) (eq-eqb a a refl));
+              sym (opened_under sent past e ch message a ∙ ap
+              (λ (b : Bool). (true && b) || was_opened (sent ++ past) a) (eq-eqb a a refl));
           flush = h.flush ∙ sym (flush_under sent past e ch message a);
           pends = λ q. record { mark = mark; is = is; kind = (refl, first, below); last = last };
         }
@@ -279,12 +282,27 @@ opens_keeps sent past e made ch clear exports a class values l new h is =
 pub closes_keeps : (past : Past) → ArrivesMade past → (a ch : ℕ) (sleeps : Bool) (flush : ℕ) (l new : Life)
     → KeepsLife past a l → l.index ≡ Some ch
     → (sleeps ≡ true → flush_seen past a ≡ Some flush)
-    → new ≡ record { state = state.Closing; index = l.index; sleeps = sleeps; opened = l.opened; flush = cond sleeps (Some flush) l.flush }
+    → new ≡ record {
+      state = state.Closing;
+      index = l.index;
+      sleeps = sleeps;
+      opened = l.opened;
+      flush =
+          cond sleeps (Some flush) l.flush;
+    }
     → KeepsLife (after_making past ch (Closes a sleeps)) a new
 closes_keeps past made a ch sleeps flush l new h at seen is =
     subst (KeepsLife (after_making past ch (Closes a sleeps)) a) (sym is) keeps
   where
-    keeps : KeepsLife (after_making past ch (Closes a sleeps)) a (record { state = state.Closing; index = l.index; sleeps = sleeps; opened = l.opened; flush = cond sleeps (Some flush) l.flush })
+    keeps : KeepsLife (after_making past ch (Closes a sleeps)) a
+        (record {
+          state = state.Closing;
+          index = l.index;
+          sleeps = sleeps;
+          opened = l.opened;
+          flush =
+              cond sleeps (Some flush) l.flush;
+        })
     keeps =
         let message : Message = Closes a sleeps in
         let later : Past = after_making past ch message in
@@ -320,7 +338,14 @@ pub goes_keeps : (past : Past) (a ch : ℕ) (l new : Life) → KeepsLife past a 
     → KeepsLife (after_making past ch (Gone a)) a new
 goes_keeps past a ch l new h is = subst (KeepsLife (after_making past ch (Gone a)) a) (sym is) keeps
   where
-    keeps : KeepsLife (after_making past ch (Gone a)) a (record { state = state.None; index = None; sleeps = l.sleeps; opened = l.opened; flush = l.flush })
+    keeps : KeepsLife (after_making past ch (Gone a)) a (record {
+      state = state.None;
+      index = None;
+      sleeps =
+          l.sleeps;
+      opened = l.opened;
+      flush = l.flush;
+    })
     keeps =
         let message : Message = Gone a in
         let later : Past = after_making past ch message in

@@ -109,7 +109,8 @@ pub service_like : (past later : Past) (a : ℕ) (s new : Service) → ticks_of 
     → KeepsService later a new
 service_like past later a s new ticks sight relevant owned unserved served h = record {
   relevant = ap (λ (n : ℕ). n + idle_ticks later a) relevant
-      ∙ ap (λ (ts : List (ℕ × List Seen)). s.relevant_at + length (items_since (λ (tick : ℕ × List Seen). is_relevant_in tick.1 a) ts)) ticks
+      ∙ ap (λ (ts : List (ℕ × List Seen)). s.relevant_at + length
+      (items_since (λ (tick : ℕ × List Seen). is_relevant_in tick.1 a) ts)) ticks
       ∙ h.relevant ∙ ap (λ (ts : List (ℕ × List Seen)). length ts) (sym ticks);
   first =
       ap (λ (ts : List (ℕ × List Seen)). is_some (oldest_of (shown_in a) ts)) ticks ∙ h.first
@@ -149,4 +150,5 @@ served_open sent past ch a m s new h e none opens some is =
     (sight_under sent past ch m)
     (ap (λ (x : Service). x.relevant_at) is) (ap (λ (x : Service). x.owned_at) is)
     (λ z. absurd (omega (arith, some, z, ap (λ (x : Service). x.relevant_at) is)))
-    (ap (λ (x : Service). x.served) is ∙ ap (λ (o : Option ℕ). unwrap_or o (first_sight (sent ++ past) a - 1)) (sym last)) h
+    (ap (λ (x : Service). x.served) is ∙ ap (λ (o : Option ℕ). unwrap_or o (first_sight (sent ++ past) a - 1))
+    (sym last)) h

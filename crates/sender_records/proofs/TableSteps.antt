@@ -42,7 +42,8 @@ pub record ComparedAs (f : HandleRecord → ℤ → HandleRecord) (changes : Lis
   pub is : later ≡ by_value f (handle_changed named k) (value_among (map pair_value values) h)
 
 -- a handle is grown to, marked where it changed, and compared
-pub compared_as : (f : HandleRecord → ℤ → HandleRecord) (grown marked final : List HandleRecord) (changes : List Change) (values : List PairValue) (h : ℕ) (k : HandleRecord)
+pub compared_as : (f : HandleRecord → ℤ → HandleRecord) (grown marked final : List HandleRecord)
+    (changes : List Change) (values : List PairValue) (h : ℕ) (k : HandleRecord)
     → handle_in grown h ≡ k → AllBelow (length grown) values → length marked ≡ length grown
     → (h < length grown → handle_in marked h ≡ handle_changed (names_change changes h) (handle_in grown h))
     → handle_in final h ≡ by_value f (handle_in marked h) (value_among (map pair_value values) h)
@@ -65,6 +66,19 @@ compared_as f grown marked final changes values h k same room len marks compares
           is = compares ∙ ap (λ (x : HandleRecord). by_value f x (value_among (map pair_value values) h))
               (get_or_past marked h no_handle (omega (arith, len, over)) ∙ ap (handle_changed false) (sym none));
         }
+
+-- a comparison leaves the packet in which the handle went last
+pub packet_stays : (last tick : ℕ) (updatable role : Bool) (changes : List Change) (values : List PairValue) (h : ℕ)
+    (k later : HandleRecord) → ComparedAs (handle_compared last tick updatable role) changes values h k later
+    → later.packet ≡ k.packet
+packet_stays last tick updatable role changes values h k later c =
+    ap (λ (x : HandleRecord). x.packet) c.is ∙ by updatable (value_among (map pair_value values) h)
+  where
+    by : (u : Bool) (o : Option ℤ)
+        → (by_value (handle_compared last tick u role) (handle_changed c.named k) o).packet ≡ k.packet
+    by u None = refl
+    by true (Some v) = refl
+    by false (Some v) = refl
 
 -- the values that agree with the newest sample are those that were compared last
 pub agreed_by : (samples : List Sample) (values : List Pair) (compared h : ℕ) → Agrees samples values
@@ -90,15 +104,19 @@ module _ (past : Past) (samples : List Sample) (a compared last tick h : ℕ) (c
       → KeepsHandle past samples a (newest_change compared changes) tick h later
   table_compared newer turn =
       subst (KeepsHandle past samples a (newest_change compared changes) tick h) (sym c.is)
-      (compared_keeps past samples a compared (newest_change compared changes) last tick h k c.named (is_updatable_in class owns h) (value_among (map pair_value values) h) keeps newer
+      (compared_keeps past samples a compared (newest_change compared changes) last tick h k c.named
+      (is_updatable_in class owns h) (value_among (map pair_value values) h) keeps newer
       (λ v e ne. (agrees h v e ne).1) stays
-      (λ v e ne. value_stays samples (newest_change compared changes) (place_of h) (current samples compared changes is turn (place_of h) (agrees h v e ne).0)))
+      (λ v e ne. value_stays samples (newest_change compared changes) (place_of h)
+      (current samples compared changes is turn (place_of h) (agrees h v e ne).0)))
 
   pub table_due : (v : ℤ) → value_among (map pair_value values) h ≡ Some v → is_updatable_in class owns h ≡ true
       → is_due_pair past a (record { handle = h; value = v }) ≡ later.marked
   table_due v e u =
       due_is past samples a compared last h k keeps v
-      ∙ sym (marked_due past samples a compared last h k keeps c.named v (λ ne. (agrees h v e ne).1) (λ ne unnamed. stays v e u ne unnamed))
+      ∙ sym (marked_due past samples a compared last h k keeps c.named v (λ ne. (agrees h v e ne).1)
+      (λ ne unnamed. stays v e u ne unnamed))
       ∙ ap (λ (b : Bool). (handle_compared last tick b (h == 3) (handle_changed c.named k) v).marked) (sym u)
-      ∙ ap (λ (o : Option ℤ). (by_value (handle_compared last tick (is_updatable_in class owns h) (h == 3)) (handle_changed c.named k) o).marked) (sym e)
+      ∙ ap (λ (o : Option ℤ). (by_value (handle_compared last tick (is_updatable_in class owns h) (h == 3))
+      (handle_changed c.named k) o).marked) (sym e)
       ∙ ap (λ (x : HandleRecord). x.marked) (sym c.is)

@@ -74,7 +74,8 @@ by_values f k (Some v) (Some w) (inl e) = absurd (let no : Some v ≡ None = e i
 by_values f k (Some v) (Some w) (inr e) = absurd (let no : Some w ≡ None = e in cc)
 
 -- records written up to an index are written up to the next once that handle is
-pub written : (f : ℕ → HandleRecord → ℤ → HandleRecord) (values : List PairValue) (i : ℕ) (p : PairValue) (start now later : List HandleRecord)
+pub written : (f : ℕ → HandleRecord → ℤ → HandleRecord) (values : List PairValue) (i : ℕ) (p : PairValue)
+    (start now later : List HandleRecord)
     → slice_get values i ≡ Some p → AreApart (map pair_value values)
     → ((h : ℕ) → handle_in now h ≡ by_value (f h) (handle_in start h) (value_among (map pair_value (take i values)) h))
     → handle_in later p.prop ≡ f p.prop (handle_in now p.prop) (whole_of p.value)

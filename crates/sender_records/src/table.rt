@@ -134,6 +134,8 @@ impl HandleTable {
             ≡ (handle_in self.new.handles h).marked) }
         ensures room { OnOk result (AllBelow (length self.new.handles) values.now) }
         ensures last { OnOk result (self.new.last ≡ tick) }
+        ensures packets { OnOk result (AreApart (pairs_of values.now) → (h : ℕ)
+            → (handle_in self.new.handles h).packet ≡ (handle_in self.old.handles h).packet) }
         ensures ok { AllBelow (length self.old.handles) values.now → IsOk result }
         ensures err { OnErr result (self.new ≡ self.old) }
     {

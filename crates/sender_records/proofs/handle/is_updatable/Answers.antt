@@ -21,7 +21,8 @@ updatable_by : (segments : List Segment) (class : Class) (owns : Bool) (h : ℕ)
     ≡ unwrap_or (option_map (λ (p : Prop). updatable p.cond owns true) o) false
 updatable_by segments class owns h lo o e =
     ap (λ (x : Option Model.Prop). unwrap_or (option_map (λ (p : Model.Prop). updatable p.cond owns true) x) false)
-    (own_prop (class_of segments class) h (h - 4) (omega arith) ∙ slice_get-map prop_of class.props (h - 4) ∙ ap (option_map prop_of) e)
+    (own_prop (class_of segments class) h (h - 4) (omega arith) ∙ slice_get-map prop_of class.props (h - 4)
+    ∙ ap (option_map prop_of) e)
     ∙ by o
   where
     by : (o : Option Prop)
@@ -33,9 +34,11 @@ updatable_by segments class owns h lo o e =
 pub returns-in-Some : goal.returns-in-Some
 returns-in-Some c = λ segments.
     let own : 4 ≤ c.prop.inside.0 = omega arith in
-    subst (λ (h : ℕ). c.updatable-in-Some.result ≡ is_updatable_in (class_of segments c.args.class.now) c.args.owns h) c.prop.view_is
+    subst (λ (h : ℕ). c.updatable-in-Some.result ≡ is_updatable_in (class_of segments c.args.class.now) c.args.owns h)
+    c.prop.view_is
     (c.updatable-in-Some.ensures
-    ∙ sym (updatable_by segments c.args.class.now c.args.owns c.prop.inside.0 own (Some c.in-Some.p.now) (sym c.in-Some.ensures)))
+    ∙ sym (updatable_by segments c.args.class.now c.args.owns c.prop.inside.0 own (Some c.in-Some.p.now)
+    (sym c.in-Some.ensures)))
 
 pub returns-in-None : goal.returns-in-None
 returns-in-None c = λ segments.

@@ -8,5 +8,6 @@ invariant-loop-p l = record {
   len : length l.handles.items ≡ length l.initial.handles.items;
   each : (h : ℕ) → AreApart (map pair_value l.values)
       → handle_in l.handles.items h
-      ≡ by_value (handle_carried l.packet) (handle_in l.initial.handles.items h) (value_among (map pair_value (take l.p-index l.values)) h);
+      ≡ by_value (handle_carried l.packet) (handle_in l.initial.handles.items h)
+      (value_among (map pair_value (take l.p-index l.values)) h);
 }

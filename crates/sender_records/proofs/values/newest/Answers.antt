@@ -26,8 +26,10 @@ loop-change-preserved c =
     slice_get_read c.args.changes.now (length c.args.changes.now) c.loop-change.change-index c.change-item.result refl
     (omega arith) c.change-item.is in
     elim c.if-change-newest.branch [
-      | then-change-newest w ↦ more c.args.before c.loop-change.change-index c.args.changes.now c.change-item.result c.loop-change.newest c.if-change-newest.newest at c.loop-change.invariant
+      | then-change-newest w ↦ more c.args.before c.loop-change.change-index c.args.changes.now c.change-item.result
+          c.loop-change.newest c.if-change-newest.newest at c.loop-change.invariant
           (w.newest-is ∙ greater c.loop-change.newest c.change-item.result.tick w.if-change-newest.true)
-      | else-change-newest w ↦ more c.args.before c.loop-change.change-index c.args.changes.now c.change-item.result c.loop-change.newest c.if-change-newest.newest at c.loop-change.invariant
+      | else-change-newest w ↦ more c.args.before c.loop-change.change-index c.args.changes.now c.change-item.result
+          c.loop-change.newest c.if-change-newest.newest at c.loop-change.invariant
           (w.newest-is ∙ lesser c.loop-change.newest c.change-item.result.tick w.if-change-newest.false)
     ]

@@ -13,24 +13,32 @@ loop-p-preserved c =
     let at : slice_get c.args.values.now c.loop-p.p-index ≡ Some c.p-item.result =
     slice_get_read c.args.values.now (length c.args.values.now) c.loop-p.p-index c.p-item.result refl
     (omega arith) c.p-item.is in
-    let low : c.p-item.result.prop < length c.args.handles.now.items = c.requires.room c.loop-p.p-index c.p-item.result at in
+    let low : c.p-item.result.prop < length c.args.handles.now.items =
+    c.requires.room c.loop-p.p-index c.p-item.result at in
     let within : c.place-at.result < length c.loop-p.handles.items = omega
     (arith, c.place-at.ensures.same, low, c.loop-p.invariant.len) in
     record {
       len = length-set c.loop-p.handles.items c.place-at.result c.opened.result ∙ c.loop-p.invariant.len;
       each = λ segments h apart.
-          written (λ (h : ℕ). handle_opened c.args.tick (is_updatable_in (class_of segments c.args.class.now) c.args.owns h)) c.args.values.now c.loop-p.p-index c.p-item.result
+          written (λ (h : ℕ). handle_opened c.args.tick (is_updatable_in
+          (class_of segments c.args.class.now) c.args.owns h)) c.args.values.now c.loop-p.p-index c.p-item.result
           c.args.handles.now.items c.loop-p.handles.items _ at apart
           (λ h. c.loop-p.invariant.each segments h apart)
-          (updated_here (λ (k : HandleRecord). handle_opened c.args.tick (is_updatable_in (class_of segments c.args.class.now) c.args.owns c.p-item.result.prop) k (whole_of c.p-item.result.value))
-          c.loop-p.handles.items c.place-at.result c.p-item.result.prop c.index_mut.result.now c.opened.result within c.place-at.ensures.same c.index_mut.ensures.value
-          (c.opened.ensures ∙ ap (λ (b : Bool). handle_opened c.args.tick b no_handle (whole_of c.p-item.result.value)) (c.is_updatable-updatable.ensures segments)))
-          (λ h ne. other_handle c.loop-p.handles.items c.place-at.result c.p-item.result.prop h c.opened.result c.place-at.ensures.same ne) h;
+          (updated_here (λ (k : HandleRecord). handle_opened c.args.tick
+          (is_updatable_in (class_of segments c.args.class.now) c.args.owns c.p-item.result.prop) k
+          (whole_of c.p-item.result.value))
+          c.loop-p.handles.items c.place-at.result c.p-item.result.prop c.index_mut.result.now c.opened.result within
+          c.place-at.ensures.same c.index_mut.ensures.value
+          (c.opened.ensures ∙ ap (λ (b : Bool). handle_opened c.args.tick b no_handle (whole_of c.p-item.result.value))
+          (c.is_updatable-updatable.ensures segments)))
+          (λ h ne. other_handle c.loop-p.handles.items c.place-at.result c.p-item.result.prop h c.opened.result
+          c.place-at.ensures.same ne) h;
     }
 
 pub returns-clause-each : goal.returns-clause-each
 returns-clause-each c = λ segments h apart.
     all_written
-    (handle_opened c.args.tick (is_updatable_in (class_of segments c.args.class.now) c.args.owns h)) c.args.values.now c.loop-p.p-index h
+    (handle_opened c.args.tick (is_updatable_in (class_of segments c.args.class.now) c.args.owns h)) c.args.values.now
+    c.loop-p.p-index h
     (handle_in c.args.handles.now.items h) (handle_in c.loop-p.handles.items h) (omega arith)
     (c.loop-p.invariant.each segments h apart)

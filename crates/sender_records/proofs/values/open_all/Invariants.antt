@@ -10,5 +10,6 @@ invariant-loop-p l = record {
   len : length l.handles.items ≡ length l.initial.handles.items;
   each : (segments : List Segment) (h : ℕ) → AreApart (map pair_value l.values)
       → handle_in l.handles.items h
-      ≡ by_value (handle_opened l.tick (is_updatable_in (class_of segments l.class) l.owns h)) (handle_in l.initial.handles.items h) (value_among (map pair_value (take l.p-index l.values)) h);
+      ≡ by_value (handle_opened l.tick (is_updatable_in (class_of segments l.class) l.owns h))
+      (handle_in l.initial.handles.items h) (value_among (map pair_value (take l.p-index l.values)) h);
 }

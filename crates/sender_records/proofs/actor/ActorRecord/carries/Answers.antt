@@ -10,7 +10,8 @@ pub returns-clause-keeps : goal.returns-clause-keeps
 returns-clause-keeps c = λ items class bunch past samples actor k none new some apart agrees now. record {
   life =
       life_sent c.args.packet c.args.tick items
-      (Loose (Updates actor class (map pair_value c.args.values.now)) bunch) past actor c.args.self.now.life new tt k.life;
+      (Loose (Updates actor class (map pair_value c.args.values.now)) bunch) past actor c.args.self.now.life new tt
+      k.life;
   service =
       c.serves.ensures.updated c.args.packet actor items
       (Loose (Updates actor class (map pair_value c.args.values.now)) bunch) past k.service

@@ -9,7 +9,15 @@ returns-then-sleeps c = record {
   state = refl;
   keeps = λ past actor ch h at made seen.
       closes_keeps past made actor ch c.args.sleeps c.args.flush c.args.self.now _ h at seen
-      (ap (λ (b : Bool). let l : Life = record { state = state.Closing; index = c.args.self.now.index; sleeps = c.args.sleeps; opened = c.args.self.now.opened; flush = cond b (Some c.args.flush) c.args.self.now.flush } in l)
+      (ap (λ (b : Bool). let l : Life = record {
+        state = state.Closing;
+        index = c.args.self.now.index;
+        sleeps =
+            c.args.sleeps;
+        opened = c.args.self.now.opened;
+        flush = cond b (Some c.args.flush) c.args.self.now.flush;
+      } in
+      l)
       (sym c.if-sleeps.true));
 }
 
@@ -18,6 +26,14 @@ returns-else-sleeps c = record {
   state = refl;
   keeps = λ past actor ch h at made seen.
       closes_keeps past made actor ch c.args.sleeps c.args.flush c.args.self.now _ h at seen
-      (ap (λ (b : Bool). let l : Life = record { state = state.Closing; index = c.args.self.now.index; sleeps = c.args.sleeps; opened = c.args.self.now.opened; flush = cond b (Some c.args.flush) c.args.self.now.flush } in l)
+      (ap (λ (b : Bool). let l : Life = record {
+        state = state.Closing;
+        index = c.args.self.now.index;
+        sleeps =
+            c.args.sleeps;
+        opened = c.args.self.now.opened;
+        flush = cond b (Some c.args.flush) c.args.self.now.flush;
+      } in
+      l)
       (sym c.if-sleeps.false));
 }

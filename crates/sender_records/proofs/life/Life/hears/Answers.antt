@@ -13,7 +13,8 @@ returns-then-clear c = record {
   same_open = ap (λ (l : Life). is_open (state_value l.state)) c.cleared.ensures ∙ cleared_open c.args.self.now;
   keeps = λ past later actor h r.
       subst (λ (l : Life). KeepsLife later actor l) (sym c.cleared.ensures)
-      (cleared_keeps past later actor c.args.self.now h (subst (λ (b : Bool). Arrives past later actor b) c.if-clear.true r));
+      (cleared_keeps past later actor c.args.self.now h (subst
+      (λ (b : Bool). Arrives past later actor b) c.if-clear.true r));
 }
 
 pub returns-else-clear : goal.returns-else-clear

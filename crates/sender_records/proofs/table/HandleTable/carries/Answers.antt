@@ -16,9 +16,12 @@ returns-clause-keeps c = λ t items class bunch past actor samples h none new ap
     (sym c.self.view_is) now in
     record {
       each = λ h.
-          subst (KeepsHandle (Sent c.args.packet t (items ++ Loose (Updates actor class (map pair_value c.args.values.now)) bunch ∷ []) ∷ past) samples actor c.self.inside.compared c.self.inside.last h)
+          subst (KeepsHandle (Sent c.args.packet t (items ++ Loose
+          (Updates actor class (map pair_value c.args.values.now)) bunch ∷ []) ∷ past) samples actor
+          c.self.inside.compared c.self.inside.last h)
           (sym (c.carry_all.ensures.each h apart))
-          (updated_keeps c.args.packet t items class (map pair_value c.args.values.now) bunch past samples actor c.self.inside.compared c.self.inside.last h
+          (updated_keeps c.args.packet t items class (map pair_value c.args.values.now) bunch past samples actor
+          c.self.inside.compared c.self.inside.last h
           (handle_in c.self.inside.handles.items h) none new
           (agreed_by samples (map pair_value c.args.values.now) c.self.inside.compared h agrees n) (k.each h));
       compared = k.compared;

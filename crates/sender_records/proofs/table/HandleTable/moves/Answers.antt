@@ -14,7 +14,8 @@ returns-clause-keeps c = λ past later actor samples h m.
       each = λ h.
           subst (KeepsHandle later samples actor c.self.inside.compared c.self.inside.last h)
           (sym (c.move_all.ensures h))
-          (moved_keeps c.args.from c.args.to past later m samples actor c.self.inside.compared c.self.inside.last h (handle_in c.self.inside.handles.items h) (k.each h));
+          (moved_keeps c.args.from c.args.to past later m samples actor c.self.inside.compared c.self.inside.last h
+          (handle_in c.self.inside.handles.items h) (k.each h));
       compared = k.compared;
       some = k.some;
       now = omega (arith, k.now, ap length (ticks_alike past later m.done));
@@ -29,7 +30,8 @@ returns-clause-again c = λ past later actor samples h m.
       each = λ h.
           subst (KeepsHandle later samples actor c.self.inside.compared c.self.inside.last h)
           (sym (c.move_all.ensures h))
-          (again_keeps c.args.from c.args.to past later m samples actor c.self.inside.compared c.self.inside.last h (handle_in c.self.inside.handles.items h) (k.each h));
+          (again_keeps c.args.from c.args.to past later m samples actor c.self.inside.compared c.self.inside.last h
+          (handle_in c.self.inside.handles.items h) (k.each h));
       compared = k.compared;
       some = k.some;
       now = k.now;

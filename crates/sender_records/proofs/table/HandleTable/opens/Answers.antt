@@ -20,11 +20,16 @@ returns-clause-keeps c = λ sent past channel actor exports shown samples e none
     subst (IsCurrent samples) (sym newest) (current samples 0 c.args.changes.now sampled.told turn) in
     record {
       each = λ h.
-          subst (KeepsHandle (sent ++ after_making past channel (Opens exports actor shown (map pair_value c.args.values.now))) samples actor c.newest-self-inside.result c.args.tick h)
+          subst (KeepsHandle (sent ++ after_making past channel
+          (Opens exports actor shown (map pair_value c.args.values.now))) samples actor c.newest-self-inside.result
+          c.args.tick h)
           (sym (c.open_all.ensures.each [] h sampled.apart
-          ∙ ap (λ (k : HandleRecord). by_value (handle_opened c.args.tick (updatable h)) k (value_among (map pair_value c.args.values.now) h))
+          ∙ ap (λ (k : HandleRecord). by_value (handle_opened c.args.tick (updatable h)) k
+          (value_among (map pair_value c.args.values.now) h))
           (c.forget_all.ensures.each h)))
-          (opened_keeps sent past e channel exports actor shown (map pair_value c.args.values.now) none samples c.newest-self-inside.result c.args.tick h (updatable h) c.requires
+          (opened_keeps sent past e channel exports actor shown
+          (map pair_value c.args.values.now) none samples c.newest-self-inside.result c.args.tick h
+          (updatable h) c.requires
           (agreed_by samples (map pair_value c.args.values.now) c.newest-self-inside.result h sampled.agrees now));
       compared = omega (arith, newest, newest_within samples 0 0 c.args.changes.now sampled.told turn (omega arith));
       some = c.requires;
@@ -32,6 +37,7 @@ returns-clause-keeps c = λ sent past channel actor exports shown samples e none
           omega (
             arith,
             now_is,
-            ap length (ticks_under sent past channel (Opens exports actor shown (map pair_value c.args.values.now)) ∙ ticks_sent sent past e),
+            ap length (ticks_under sent past channel (Opens exports actor shown (map pair_value c.args.values.now))
+                ∙ ticks_sent sent past e),
           );
     }
