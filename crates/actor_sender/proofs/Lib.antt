@@ -12,6 +12,9 @@ pub mod Moving
 pub mod Learning
 pub mod Showing
 pub mod Begun
+pub mod Comparing
+pub mod Finding
+pub mod Unserved
 pub mod Rooms
 pub mod Ends
 pub mod Folds

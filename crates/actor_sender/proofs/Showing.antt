@@ -131,7 +131,7 @@ entry_relevant layout (x ∷ sight) low (suc i) s h at =
 
 -- ---- entry by entry
 
-among_more : (sight : List SeenValue) (i : ℕ) (s : SeenValue) (a : ℕ) → slice_get sight i ≡ Some s
+pub among_more : (sight : List SeenValue) (i : ℕ) (s : SeenValue) (a : ℕ) → slice_get sight i ≡ Some s
     → is_among a (actors_in (take (i + 1) sight)) ≡ (is_among a (actors_in (take i sight)) || (s.actor == a))
 among_more [] i s a at = absurd (let no : (let o : Option SeenValue = None in o) ≡ Some s = at in cc)
 among_more (x ∷ sight) zero s a at = (let same : x ≡ s = cc in ap (λ (y : SeenValue). (y.actor == a) || false) same

@@ -4,3 +4,4 @@ pub mod Stands
 pub mod States
 pub mod Hearing
 pub mod Closing
+pub mod Turning

@@ -4,6 +4,7 @@
 //     fates move        moved          told to the updates, and to the opens and closes, under way
 //     tick begins       take_in        what the client knows, whom the sight shows
 //     actors end        make_closes    closes, dormant closes and Gones, each on its channel
+//     before it sends   find_turns     who has something to send, by score
 //     asked             state, was_opened, shows_owned, quiet, settled
 //
 // A server's end that hears of packets, and begins a tick:
@@ -22,7 +23,8 @@
 // Gone say, on `class_layout` for classes and values, and on `sender_laws`. It promises that what
 // is kept stands for all that the end did (`Keeps`), so that every answer is that of the
 // definitions over this whole list; that a channel is given up exactly where its close has arrived;
-// and that exactly the closes are made that a tick calls for. It knows no world, as what a player
+// that exactly the closes are made that a tick calls for; and that exactly the actors have a turn
+// that have something to send, in the order of their scores. It knows no world, as what a player
 // sees is handed to it, and no other connection. It doesn't send: the opens and updates of a tick,
 // and its packets, aren't here.
 #![tactic(auto)]
@@ -40,6 +42,9 @@ mod taking;
 #[cfg(test)]
 mod tests;
 mod tidying;
+mod turns;
+#[cfg(test)]
+mod turns_tests;
 
 pub use channel_table::ChannelTable;
 pub use class_layout::{Classes, Pair, PairList};
@@ -47,3 +52,4 @@ pub use link_end::FateMove;
 pub use sender::ActorSender;
 pub use sender_records::ActorState;
 pub use sight::{Seen, Sight};
+pub use turns::{Turn, find_turns};
