@@ -1,6 +1,6 @@
 -- What a call at a living end is answered, and what it leaves.
-use Rattle.std.proofs.Common.{◌≡◌, ◌≢◌, ℕ, ◌+◌, ◌/◌, ◌<◌, ◌≤◌, List, [], ◌∷◌, ◌++◌, map, length, reverse, Bool, true, false, not, cond, Option, Some, None, refl, sym, ap, ◌∙◌, subst, arith}
-use Rattle.std.specs.Prelude.{filter_map, nat_lt, nat_le, if◌then◌else◌, OnOk, Result, Ok, Err}
+use Rattle.std.proofs.Common.{◌≡◌, ◌≢◌, ℕ, ◌+◌, ◌/◌, ◌<◌, ◌≤◌, List, [], ◌∷◌, ◌++◌, map, length, Bool, true, false, not, cond, Option, Some, None, refl, sym, ap, ◌∙◌, subst, arith}
+use Rattle.std.specs.Prelude.{filter_map, nat_lt, nat_le, if◌then◌else◌}
 use Rattle.std.proofs.lemmas.Bool.{false≢true}
 use Rattle.std.proofs.lemmas.Option.{same_Some}
 use Rattle.std.proofs.lemmas.Bool.Decides.{nat_tests}
@@ -11,16 +11,15 @@ use Rattle.protocol_model.specs.Payload.{Message, Calls, message_bits, part_coun
 use Rattle.protocol_model.specs.declared.CallAnswer.{CallAnswer}
 use Rattle.protocol_model.specs.declared.CallAnswer.TheVariants.{Queued, Dead, NotOpen, NotOwner, WindowFull}
 use Rattle.connection_model.specs.Feed.{End, Past, Made, Waits, has_ended, deeds_since_tick}
-use Rattle.connection_model.specs.Bunches.{room, made_count, after_making}
+use Rattle.connection_model.specs.Bunches.{room, after_making}
 use Rattle.connection_model.specs.State.{ActorState, Closed, Opening, Opened, Closing, Asleep, state_of, index_of, is_opened}
-use Rattle.connection_model.specs.CallAnswers.{answer_of, answer_for, after_call, after_answer, call_channel, call_of, is_not_owner, is_full, waiting_of, waits_in, queued_for}
-use Rattle.shadow_changes.specs.Samples.{Samples}
+use Rattle.connection_model.specs.CallAnswers.{answer_of, after_call, after_answer, call_channel, call_of, is_not_owner, is_full, waiting_of, waits_in}
 use Rattle.connection_laws.proofs.Moves.{making_keeps}
 use Rattle.link_end.specs.Link.{Link}
 use Rattle.link_end.specs.Rests.{Rests}
 use Rattle.channel_table.specs.Channels.{Channels, WaitingCall}
 use Rattle.channel_table.specs.Keeps.{Keeps as KeepsTable}
-use Rattle.channel_table.specs.Stands.{Stands as StandsTable, waiting_call, channel_bound, actor_bound, IsPaired}
+use Rattle.channel_table.specs.Stands.{Stands as StandsTable, waiting_call, channel_bound, IsPaired}
 use Rattle.sender_laws.specs.States.{is_pending}
 use Rattle.actor_sender.proofs.Unseen.{call_index}
 

@@ -1,17 +1,13 @@
 -- A player's seat with one more call, and its end.
-use Rattle.std.proofs.Common.{◌≡◌, ◌≢◌, ℕ, ◌+◌, ◌≤◌, ◌<◌, ◌==◌, List, [], ◌∷◌, map, length, Bool, true, false, not, cond, ◌&&◌, Option, Some, None, option_map, option_and_then, refl, sym, ap, ◌∙◌, subst, arith, if◌then◌else◌}
-use Rattle.std.specs.Prelude.{find, slice_index_or}
-use Rattle.std.specs.Bool.{then_some}
+use Rattle.std.proofs.Common.{◌≡◌, ◌≢◌, ℕ, ◌+◌, ◌≤◌, ◌==◌, List, ◌∷◌, Bool, true, false, Option, Some, refl, sym, ap, ◌∙◌, subst, arith, if◌then◌else◌}
 use Rattle.std.proofs.lemmas.Bool.{false≢true}
-use Rattle.std.proofs.lemmas.Option.{same_Some, none-some}
 use Rattle.std.proofs.lemmas.List.{length-map}
 use Rattle.protocol_model.specs.Side.{AtServer}
-use Rattle.protocol_model.specs.Value.{Table, Class, Call, Arg, call_at, goes_up, args_fit}
-use Rattle.protocol_model.specs.World.{Edits, class_of}
+use Rattle.protocol_model.specs.Value.{Table, Arg}
+use Rattle.protocol_model.specs.World.{Edits}
 use Rattle.connection_model.specs.Feed.{End, Event, Past, Ended, ByStall, has_ended}
 use Rattle.connection_model.specs.Feed as feed
 use Rattle.connection_model.specs.Past.{after_event, past_of}
-use Rattle.connection_model.specs.State.{opened_class}
 use Rattle.connection_model.specs.CallAnswers.{after_call}
 use Rattle.class_layout.specs.Tables.{table_in}
 use Rattle.shadow_changes.specs.Samples.{Samples}
@@ -20,12 +16,12 @@ use Rattle.net_driver.specs.declared.chair.Chair.{Chair}
 use Rattle.net_driver.specs.declared.chair.Place.{Place}
 use Rattle.net_driver.specs.declared.chair.Place.TheVariants.{Living, Dead}
 use Rattle.net_driver.specs.Chairs.{place_in, living_key}
-use Rattle.net_driver.specs.Served.{Seat, Served, seat_of, with_seat, heard, past_for, past_as, top_for, end_for}
+use Rattle.net_driver.specs.Served.{Seat, Served, with_seat, heard, past_for, past_as, end_for}
 use Rattle.net_driver.specs.Ends.{StandsEnd, end_at, AreOfWorld, IsLiving, IsPlace}
-use Rattle.net_driver.specs.Serves.{Drive, Serves, IsSeated, AreSeated}
+use Rattle.net_driver.specs.Serves.{Drive, Serves, IsSeated}
 use Rattle.net_driver.proofs.Seats.{turns, turned_rising}
 use Rattle.net_driver.proofs.Placing.{living_is, elsewhere}
-use Rattle.net_driver.proofs.Leaving.{OpensNone, call_opens_none}
+use Rattle.net_driver.proofs.Leaving.{call_opens_none}
 
 -- ---- a dead end hears nothing
 

@@ -1,5 +1,5 @@
 -- A call that was made at the end under a key: the driver stands for it, and the answer is the definitions'.
-use Rattle.std.proofs.Common.{◌≡◌, ◌≢◌, ℕ, ◌+◌, ◌≤◌, ◌<◌, ◌^◌, List, map, Option, Some, None, refl, sym, ap, ◌∙◌, subst, arith}
+use Rattle.std.proofs.Common.{◌≡◌, ◌≢◌, ℕ, ◌+◌, ◌≤◌, ◌<◌, ◌^◌, List, map, Option, Some, sym, ap, ◌∙◌, subst, arith}
 use Rattle.std.proofs.lemmas.Option.{same_Some}
 use Rattle.protocol_model.specs.Side.{AtServer}
 use Rattle.protocol_model.specs.Value.{call_at}
@@ -21,7 +21,7 @@ use Rattle.net_driver.specs.declared.chair.Place.TheVariants.{Living}
 use Rattle.net_driver.specs.Chairs.{place_in, living_key}
 use Rattle.net_driver.specs.Calls.{IsCalled}
 use Rattle.net_driver.specs.Served.{Seat, Served, seat_of, with_seat, heard, past_for, end_for, answer_for}
-use Rattle.net_driver.specs.Ends.{StandsEnd, end_at, IsLiving, IsPlace}
+use Rattle.net_driver.specs.Ends.{StandsEnd, end_at, IsPlace}
 use Rattle.net_driver.specs.Serves.{Drive, Serves}
 use Rattle.net_driver.proofs.Placing.{for_place, living_is}
 use Rattle.net_driver.proofs.CallHeard.{heard_by, call_living}
@@ -82,8 +82,8 @@ served d s player a n key called args later r others does =
         (heard (feed.Call a n (map arg_of args)) t) (Living key)
     at_key t (e, at, lives) =
         let x = does e (end_for (table_in d.layout) t) (past_for (table_in d.layout) t) lives.before at
-        (living_called d.layout s.edits s.samples d.greatest e t a n called args lives r.tables r.fits r.found r.few)
-        in (
+        (living_called d.layout
+        s.edits s.samples d.greatest e t a n called args lives r.tables r.fits r.found r.few) in (
           x.0,
           x.1,
           call_living (table_in d.layout) s.edits s.samples d.greatest e x.0 t a n

@@ -1,5 +1,5 @@
 -- The players' chairs by number.
-use Rattle.std.proofs.Common.{◌≡◌, ℕ, zero, suc, ◌+◌, ◌≤◌, ◌<◌, List, [], ◌∷◌, ◌++◌, length, Bool, true, false, cond, not, nat_le, nat_lt, refl, sym, ap, ◌∙◌, arith, take, drop, Option, Some, None, option_map, unwrap_or}
+use Rattle.std.proofs.Common.{◌≡◌, ℕ, suc, ◌+◌, ◌≤◌, List, [], ◌∷◌, length, Bool, true, false, cond, not, nat_le, nat_lt, refl, ap, ◌∙◌, arith, Option, Some, None, option_map, unwrap_or}
 use Rattle.std.specs.List.{position, insert}
 use Rattle.std.proofs.lemmas.Bool.Decides.{nat_tests}
 use Rattle.class_layout.proofs.Finding.{position_step}

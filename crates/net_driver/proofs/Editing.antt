@@ -1,6 +1,6 @@
 -- An edit of the world leaves each connection as it was.
-use Rattle.std.proofs.Common.{◌≡◌, ◌≢◌, ℕ, List, ◌∷◌, Option, Some, None, false, refl, sym, ap, ◌∙◌, subst}
-use Rattle.protocol_model.specs.Value.{Table, Class}
+use Rattle.std.proofs.Common.{◌≡◌, ℕ, List, ◌∷◌, Option, sym, ◌∙◌, subst}
+use Rattle.protocol_model.specs.Value.{Table}
 use Rattle.protocol_model.specs.World.{Edit, Edits}
 use Rattle.connection_model.specs.Feed.{Past}
 use Rattle.class_layout.specs.Tables.{table_in}

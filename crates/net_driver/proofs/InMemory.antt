@@ -1,8 +1,7 @@
 -- Classes in memory as the definitions see them.
-use Rattle.std.proofs.Common.{◌≡◌, ℕ, zero, suc, ◌-◌, ◌≤◌, arith, List, [], ◌∷◌, map, Option, Some, None, option_map, unwrap_or, refl, sym, ap, ◌∙◌}
+use Rattle.std.proofs.Common.{◌≡◌, ℕ, zero, suc, ◌-◌, ◌≤◌, arith, List, [], ◌∷◌, map, Option, Some, None, option_map, unwrap_or, refl, ap, ◌∙◌}
 use Rattle.std.specs.Prelude.{slice_get, slice_index_or, slice_set}
-use Rattle.std.proofs.lemmas.Option.{same_Some, none-some}
-use Rattle.protocol_model.specs.Value as Model
+use Rattle.std.proofs.lemmas.Option.{none-some}
 use Rattle.protocol_model.specs.Value.{call_at}
 use Rattle.protocol_model.specs.World.{class_at, no_class}
 use Rattle.table_model.specs.Rules.{Entry}

@@ -1,22 +1,20 @@
 -- A player joins.
-use Rattle.std.proofs.Common.{◌≡◌, ◌≢◌, ◌⊎◌, inl, inr, ℕ, zero, suc, ◌+◌, ◌<◌, ◌≤◌, ◌==◌, ◌&&◌, ◌↔◌, List, [], ◌∷◌, length, Bool, true, false, not, cond, Option, Some, None, option_map, refl, sym, ap, ◌∙◌, subst, arith, append-nil, ◌++◌}
-use Rattle.std.specs.Prelude.{find, is_some, nat_le, nat_lt, slice_index_or}
-use Rattle.std.proofs.lemmas.Bool.{false≢true, le-leb, leb-true}
+use Rattle.std.proofs.Common.{◌≡◌, ◌≢◌, ℕ, suc, ◌<◌, ◌==◌, List, [], ◌∷◌, length, Bool, true, false, cond, Option, Some, None, option_map, refl, sym, ap, ◌∙◌, subst, arith, append-nil}
+use Rattle.std.specs.Prelude.{find, is_some, nat_lt, slice_index_or}
 use Rattle.protocol_model.specs.declared.Version.{Version}
 use Rattle.protocol_model.specs.Limits.{connection_limit}
 use Rattle.protocol_model.specs.Search.{insert_in_order}
-use Rattle.protocol_model.specs.Side.{AtServer}
 use Rattle.connection_model.specs.Feed.{End}
 use Rattle.class_layout.specs.Tables.{table_in}
-use Rattle.actor_sender.specs.Stands.{Stands, Extends}
+use Rattle.actor_sender.specs.Stands.{Stands}
 use Rattle.net_driver.specs.declared.server_end.ServerEnd.{ServerEnd}
 use Rattle.net_driver.specs.declared.chair.Chair.{Chair}
 use Rattle.net_driver.specs.declared.chair.Place.{Place}
 use Rattle.net_driver.specs.declared.chair.Place.TheVariants.{Living, Dead}
 use Rattle.net_driver.specs.Chairs.{sits_before, place_in}
-use Rattle.net_driver.specs.Served.{Seat, Served, seat_of, has_joined, new_seat, with_joined, end_for}
+use Rattle.net_driver.specs.Served.{Seat, Served, has_joined, new_seat, with_joined, end_for}
 use Rattle.net_driver.specs.Ends.{end_at, IsLiving, IsPlace}
-use Rattle.net_driver.specs.Serves.{Drive, Serves, IsSeated, AreSeated, IsSpent}
+use Rattle.net_driver.specs.Serves.{Drive, Serves, IsSeated, AreSeated}
 use Rattle.net_driver.proofs.Seats.{count, found, AreFound, still, one_more, joined_rising}
 
 -- the player has a chair exactly where it joined

@@ -1,5 +1,5 @@
 -- The call that is meant, by the world and by what was opened.
-use Rattle.std.proofs.Common.{◌≡◌, ◌≢◌, ℕ, zero, suc, ◌+◌, ◌≤◌, ◌<◌, ◌^◌, ◌==◌, List, [], ◌∷◌, ◌++◌, map, length, Bool, true, false, not, cond, ◌&&◌, Option, Some, None, option_map, option_and_then, refl, sym, ap, ◌∙◌, subst, arith, append_assoc}
+use Rattle.std.proofs.Common.{◌≡◌, ℕ, zero, suc, ◌+◌, ◌≤◌, ◌<◌, ◌^◌, ◌==◌, List, [], ◌∷◌, ◌++◌, map, length, Bool, true, false, ◌&&◌, Option, Some, None, refl, sym, ap, ◌∙◌, subst, arith, append_assoc}
 use Rattle.std.specs.Prelude.{slice_get, slice_index_or, is_some, nat_le, IsTrue}
 use Rattle.std.specs.List.{filter_map, cons_option, list_all}
 use Rattle.std.specs.Bool.{then_some}
@@ -7,18 +7,17 @@ use Rattle.std.proofs.lemmas.Bool.{false≢true, and_parts, leb-true}
 use Rattle.std.proofs.lemmas.Option.{same_Some, none-some}
 use Rattle.protocol_model.specs.Limits.{argument_limit, part_bits, payload_bits}
 use Rattle.protocol_model.specs.Side.{AtServer}
-use Rattle.protocol_model.specs.Value.{Table, Class, Call, Arg, Pair, Segment, call_at, goes_up, args_fit}
-use Rattle.protocol_model.specs.World.{Edits, Spawned, class_of, class_in, class_at, no_class, spawn_of}
-use Rattle.protocol_model.specs.Payload.{Message, Opens, Closes, Updates, Calls, Gone, message_bits, actor_of}
-use Rattle.protocol_model.specs.declared.Way.{Way}
+use Rattle.protocol_model.specs.Value.{Table, Class, Call, Arg, call_at, goes_up, args_fit}
+use Rattle.protocol_model.specs.World.{Edits, Spawned, class_of, class_in, no_class, spawn_of}
+use Rattle.protocol_model.specs.Payload.{Message, Opens, Closes, Updates, Calls, Gone}
 use Rattle.table_model.specs.Rules.{Entry, args_limit, largest_args}
 use Rattle.table_model.specs.Facts.{IsTable, is_call}
 use Rattle.payload_laws.specs.Limits.{HasLimits}
 use Rattle.payload_laws.proofs.TableFacts.{limits_in}
 use Rattle.payload_laws.proofs.Bounds.{call_most}
-use Rattle.connection_model.specs.Feed.{End, Past, Deed, Ticked, Made, Waits, Sent, Took, Ended, has_ended}
+use Rattle.connection_model.specs.Feed.{Past, Ticked, Made, Waits, Sent, Took, Ended}
 use Rattle.connection_model.specs.Bunches.{have_arrived}
-use Rattle.connection_model.specs.State.{Mark, ActorState, Closed, Opening, Opened, Closing, Asleep, state_of, state_at, state_after, closed_as, is_opened, last_mark, mark_in, opened_class, open_class_in}
+use Rattle.connection_model.specs.State.{Mark, state_of, state_at, state_after, closed_as, is_opened, last_mark, mark_in, opened_class, open_class_in}
 use Rattle.connection_model.specs.CallAnswers as answers
 use Rattle.class_layout.specs.Tables.{Layout, table_in, entries_in}
 use Rattle.class_members.specs.Members.{call_of}

@@ -1,11 +1,10 @@
 -- Where a player's end is, by the seat; and that it dies alone.
-use Rattle.std.proofs.Common.{◌≡◌, ◌≢◌, ℕ, ◌==◌, List, [], ◌∷◌, map, length, Bool, true, false, cond, Option, Some, None, option_map, refl, sym, ap, ◌∙◌, subst, arith, if◌then◌else◌}
-use Rattle.std.specs.Prelude.{find, slice_index_or}
-use Rattle.std.proofs.lemmas.Bool.{eqb-true, false≢true, cases_eq, ne_eqb}
+use Rattle.std.proofs.Common.{◌≡◌, ◌≢◌, ℕ, ◌==◌, List, [], ◌∷◌, map, Bool, true, false, cond, Option, Some, None, option_map, refl, sym, ap, ◌∙◌, subst, arith, if◌then◌else◌}
+use Rattle.std.specs.Prelude.{find}
+use Rattle.std.proofs.lemmas.Bool.{eqb-true, false≢true}
 use Rattle.std.proofs.lemmas.Option.{same_Some, none-some}
 use Rattle.std.proofs.lemmas.Bool.Decides.{nat_tests}
 use Rattle.std.proofs.lemmas.List.{length-map}
-use Rattle.protocol_model.specs.Value.{Table}
 use Rattle.connection_model.specs.Feed.{has_ended}
 use Rattle.class_layout.specs.Tables.{table_in}
 use Rattle.net_driver.specs.declared.server_end.ServerEnd.{ServerEnd}
@@ -14,8 +13,8 @@ use Rattle.net_driver.specs.declared.chair.Place.{Place}
 use Rattle.net_driver.specs.declared.chair.Place.TheVariants.{Living, Dead}
 use Rattle.net_driver.specs.Chairs.{dead_for, place_in, living_key}
 use Rattle.net_driver.specs.Served.{Seat, Served, seat_of, with_seat, lost_now, past_for, top_for}
-use Rattle.net_driver.specs.Ends.{end_at, IsLiving, IsPlace}
-use Rattle.net_driver.specs.Serves.{Drive, Serves, IsSeated, AreSeated}
+use Rattle.net_driver.specs.Ends.{end_at, IsPlace}
+use Rattle.net_driver.specs.Serves.{Drive, Serves, IsSeated}
 use Rattle.net_driver.proofs.Seats.{found, AreFound, again, turned_rising}
 
 -- the seat of a player whose end is at this place

@@ -1,9 +1,7 @@
 -- The players' chairs against their seats, one by one.
-use Rattle.std.proofs.Common.{◌≡◌, ◌≢◌, ℕ, ◌<◌, ◌==◌, List, [], ◌∷◌, map, length, Bool, true, false, cond, Option, Some, None, option_map, refl, sym, ap, ◌∙◌, subst, ◌≤◌, suc, if◌then◌else◌, not, arith}
+use Rattle.std.proofs.Common.{◌≡◌, ◌≢◌, ℕ, ◌<◌, ◌==◌, List, [], ◌∷◌, map, length, Bool, true, false, cond, Option, Some, None, option_map, refl, sym, ap, ◌∙◌, subst, ◌≤◌, suc, if◌then◌else◌, arith}
 use Rattle.std.specs.Prelude.{find, is_some, nat_lt}
-use Rattle.std.proofs.lemmas.Bool.{eqb-true, eqb-false, cases_Bool, false≢true, ltb-true, ltb-false}
-use Rattle.std.proofs.lemmas.Bool.Decides.{nat_tests}
-use Rattle.std.proofs.lemmas.Option.{none-some}
+use Rattle.std.proofs.lemmas.Bool.{eqb-true, eqb-false, ltb-true, ltb-false}
 use Rattle.protocol_model.specs.Value.{Table}
 use Rattle.protocol_model.specs.World.{Edits}
 use Rattle.protocol_model.specs.Search.{insert_in_order}
@@ -11,7 +9,7 @@ use Rattle.shadow_changes.specs.Samples.{Samples}
 use Rattle.net_driver.specs.declared.server_end.ServerEnd.{ServerEnd}
 use Rattle.net_driver.specs.declared.chair.Chair.{Chair}
 use Rattle.net_driver.specs.Chairs.{sits_before}
-use Rattle.net_driver.specs.Served.{Seat, Served, seat_of, has_joined}
+use Rattle.net_driver.specs.Served.{Seat}
 use Rattle.net_driver.specs.Serves.{IsSeated, AreSeated, AreAbove, AreRising}
 use Rattle.net_driver.specs.Chairs.{place_in}
 use Rattle.net_driver.specs.declared.chair.Place.{Place}

@@ -1,9 +1,9 @@
 -- What was spawned stays spawned, as the same class.
-use Rattle.std.proofs.Common.{◌≡◌, ◌≢◌, ℕ, ◌+◌, ◌*◌, ◌<◌, ◌==◌, [], ◌∷◌, Bool, true, false, refl, sym, ap, ◌∙◌, arith, Option, Some, None, if◌then◌else◌, cond, eqb, ℤ}
+use Rattle.std.proofs.Common.{◌≡◌, ◌≢◌, ℕ, ◌+◌, ◌*◌, ◌<◌, ◌==◌, [], ◌∷◌, Bool, true, false, refl, ap, ◌∙◌, arith, Some, None, cond, ℤ}
 use Rattle.std.proofs.lemmas.Bool.{ne_eqb, eqb-true}
 use Rattle.std.proofs.lemmas.List.Sums.{sum_by-cons}
-use Rattle.protocol_model.specs.Value.{Table, Class}
-use Rattle.protocol_model.specs.World.{Edit, Edits, Spawn, Destroy, Set, Own, View, Add, Dormant, Wake, Flush, Switch, Team, Give, Spawned, is_spawn, spawn_count, spawn_of, class_in, class_of}
+use Rattle.protocol_model.specs.Value.{Table}
+use Rattle.protocol_model.specs.World.{Edit, Edits, Spawn, Destroy, Set, Own, View, Add, Dormant, Wake, Flush, Switch, Team, Give, is_spawn, spawn_count, spawn_of, class_in, class_of}
 
 count_more : (class : ℕ) (x y : ℤ) (edits : Edits) → spawn_count (Spawn class x y ∷ edits) ≡ 1 + spawn_count edits
 count_more class x y edits = sum_by-cons (λ (e : Edit). cond (is_spawn e) 1 0) (Spawn class x y) edits

@@ -20,10 +20,10 @@ use Rattle.net_driver.specs.Ends.{StandsEnd}
 abbrev pub call_size : (actor number : ℕ) → Call → List Arg → ℕ
 call_size a n called args = length (message_bits (Calls a n (call_of called) (map arg_of args)))
 
--- a living end is asked for this call, if the actor is opened, with arguments that fit, and short enough for its channel
+-- this call is asked of a living end, where the actor is opened: its arguments fit, and it is short
+-- enough for its channel
 pub record IsCalled (e : ServerEnd) (end : End) (past : Past) (samples : Samples)
-    (actor number : ℕ) (called : Call)
-    (args : List Arg) : Type 0 where
+    (actor number : ℕ) (called : Call) (args : List Arg) : Type 0 where
   pub stands : StandsEnd e end past samples
   pub alive : has_ended past ≡ false
   pub meant : is_opened (state_of past actor) ≡ true
@@ -34,7 +34,8 @@ pub record IsCalled (e : ServerEnd) (end : End) (past : Past) (samples : Samples
   pub loose : called.reliable ≡ false → call_size actor number called args ≤ part_bits
   pub count : e.table.made.count < 2 ^ 60
 
--- the actor was spawned, and its class has such a call that goes to clients, with arguments that fit
+-- the actor was spawned, and its class has such a call that goes to clients, with arguments that
+-- fit
 pub record IsMade (table : Table) (edits : Edits) (actor number : ℕ)
     (args : List Arg) : Type 0 where
   pub spawned : spawn_of edits actor ≢ None

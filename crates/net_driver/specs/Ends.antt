@@ -24,8 +24,8 @@ abbrev pub AreOfWorld : Table → Edits → Past → Type 0
 AreOfWorld table edits past = (a : ℕ) (class : Class) → opened_class past a ≡ Some class
     → (spawn_of edits a ≢ None) × (class ≡ class_of table edits a)
 
--- an end that is alive: its parts stand for its past, and for samples from no later than now; twice the bunches that
--- it made are at most so many
+-- an end that is alive: its parts stand for its past, and for samples from no later than now;
+-- twice the bunches that it made are at most so many
 pub record IsLiving (table : Table) (edits : Edits) (samples : Samples) (greatest : ℕ)
     (e : ServerEnd) (s : Seat)
     : Type 0 where

@@ -12,8 +12,8 @@ use Rattle.connection_model.specs.CallAnswers.{answer_of}
 use Rattle.connection_model.specs.Fates.{top_of}
 use Rattle.shadow_changes.specs.Samples.{Samples}
 
--- a player who joined, and what the server's end of its connection heard, the newest event first; `lost` once a want
--- of memory has ended that end
+-- a player who joined, and what the server's end of its connection heard, the newest event first;
+-- `lost` once a want of memory has ended that end
 pub record Seat : Type 0 where
   pub number : ℕ
   pub budget : ℕ
@@ -21,7 +21,8 @@ pub record Seat : Type 0 where
   pub feed : List Event
   pub lost : Bool
 
--- the edits so far, the newest first, the players who joined, ascending, and the samples of actors, the newest first
+-- the edits so far, the newest first, the players who joined, ascending, and the samples of
+-- actors, the newest first
 pub record Served : Type 0 where
   pub edits : Edits
   pub seats : List Seat

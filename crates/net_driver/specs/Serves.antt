@@ -14,8 +14,8 @@ use Rattle.net_driver.specs.declared.chair.Chair.{Chair}
 use Rattle.net_driver.specs.Served.{Seat, Served}
 use Rattle.net_driver.specs.Ends.{IsPlace}
 
--- the classes, the world, the graph, the change lists, the ends by key and the players who joined, ascending;
--- `greatest` is at least twice the bunches that an end made
+-- the classes, the world, the graph, the change lists, the ends by key and the players who joined,
+-- ascending; `greatest` is at least twice the bunches that an end made
 pub record Drive : Type 0 where
   pub layout : Layout
   pub world : Kept
@@ -34,8 +34,7 @@ pub record IsSeated (table : Table) (edits : Edits) (samples : Samples) (greates
 
 -- one by one
 abbrev pub AreSeated : Table → Edits → Samples → (greatest : ℕ) → List (Option ServerEnd)
-    → List Chair → List Seat
-    → Type 0
+    → List Chair → List Seat → Type 0
 AreSeated table edits samples greatest ends [] [] = ⊤
 AreSeated table edits samples greatest ends [] (s ∷ seats) = ⊥
 AreSeated table edits samples greatest ends (c ∷ chairs) [] = ⊥

@@ -1,10 +1,9 @@
 // Calls made to a player.
-ghost use Rattle.std.specs.Prelude.{◌≡◌, ◌+◌, ◌<◌, ◌≤◌, ◌^◌, ◌∷◌, ◌&&◌, ℕ, List, Bool, map, length, not, nat_lt, true, false, Some, None, IfOk, OnOk, if◌then◌else◌};
+ghost use Rattle.std.specs.Prelude.{◌≡◌, ◌+◌, ◌<◌, ◌≤◌, ◌^◌, ◌∷◌, ◌&&◌, ℕ, List, map, length, nat_lt, true, Some, None, IfOk, OnOk, if◌then◌else◌};
 ghost use Rattle.protocol_model.specs.Limits.{channels_two, part_bits, payload_bits, waiting_limit};
 ghost use Rattle.protocol_model.specs.Side.{AtServer};
 ghost use Rattle.protocol_model.specs.Value.{Call as CallSpec, Arg as ArgSpec};
 ghost use Rattle.protocol_model.specs.Payload.{Calls, message_bits, part_count};
-ghost use Rattle.protocol_model.specs.declared.CallAnswer as answers;
 ghost use Rattle.connection_model.specs.Feed.{End, Past, Waits};
 ghost use Rattle.connection_model.specs.Bunches.{room as room_of, after_making};
 ghost use Rattle.connection_model.specs.State.{state_of, index_of, is_opened as is_opened_state};
@@ -27,7 +26,8 @@ use payload_writing::call_payload;
 use std::alloc::Global;
 
 impl ServerEnd {
-    /// Makes a call of an actor, with arguments that fit it. After `Memory` the end is of no more use.
+    /// Makes a call of an actor, with arguments that fit it. After `Memory` the end is of no more
+    /// use.
     pub fn call(
         &mut self,
         alloc: Global,
@@ -103,9 +103,8 @@ impl ServerEnd {
         requires few { self.old.table.made.count < 2 ^ 60 }
         ensures answer { IfOk result (λ answer. (end : End) (past : Past) (samples : Samples)
             → StandsEnd self.old end past samples
-            → answer
-            ≡ (if nat_lt (room_of past channel)
-            (part_count (length payload)) then CallAnswer.WindowFull else CallAnswer.Queued)) }
+            → answer ≡ (if nat_lt (room_of past channel) (part_count (length payload))
+            then CallAnswer.WindowFull else CallAnswer.Queued)) }
         ensures stands { OnOk result
             ((end : End) (past : Past) (samples : Samples) (actor number : ℕ)
             (call : CallSpec) (args : List ArgSpec) → StandsEnd self.old end past samples
@@ -131,18 +130,15 @@ impl ServerEnd {
         requires most { length payload ≤ part_bits }
         ensures answer { IfOk result (λ answer. (end : End) (past : Past) (samples : Samples)
             → StandsEnd self.old end past samples
-            → answer
-            ≡ (if nat_lt
-            (length (waiting_of past)) waiting_limit then CallAnswer.Queued else
-            CallAnswer.WindowFull)) }
+            → answer ≡ (if nat_lt (length (waiting_of past)) waiting_limit
+            then CallAnswer.Queued else CallAnswer.WindowFull)) }
         ensures stands { OnOk result
             ((end : End) (past : Past) (samples : Samples) (call : CallSpec) (args : List ArgSpec)
             → StandsEnd self.old end past samples
             → message_bits (Calls actor number call args) ≡ payload
             → StandsEnd self.new end
-            (if nat_lt (length (waiting_of past)) waiting_limit then Waits
-            (Calls actor number call args) ∷ past
-            else past) samples) }
+            (if nat_lt (length (waiting_of past)) waiting_limit
+            then Waits (Calls actor number call args) ∷ past else past) samples) }
         ensures count { OnOk result (self.new.table.made.count ≤ self.old.table.made.count + 4096) }
         ensures player { self.new.player ≡ self.old.player }
     {

@@ -1,5 +1,5 @@
 // The players who joined, and where their ends are.
-ghost use Rattle.std.specs.Prelude.{◌≡◌, ◌==◌, OnOk, OnErr, nat_le, find, option_map, map, if◌then◌else◌};
+ghost use Rattle.std.specs.Prelude.{◌≡◌, ◌==◌, OnOk, OnErr, nat_le, map};
 ghost use Rattle.std.specs.List.{position};
 ghost use Rattle.protocol_model.specs.Search.{insert_in_order};
 ghost use Rattle.net_driver.specs.declared.chair.Chair.{Chair as ChairSpec};

@@ -1,6 +1,6 @@
 // The server and its connections.
-ghost use Rattle.std.specs.Prelude.{◌≡◌, ◌⊎◌, ◌+◌, ◌*◌, ◌<◌, ◌≤◌, ◌^◌, ◌∷◌, ◌&&◌, ◌↔◌, [], ℕ, List, map, length, filter_map, true, false, not, nat_le, Some, None, IfOk, OnOk, OnErr, IsErr, IsErrOf, IsTrue, option_and_then};
-ghost use Rattle.protocol_model.specs.World.{spawn_of, Edits};
+ghost use Rattle.std.specs.Prelude.{◌≡◌, ◌⊎◌, ◌*◌, ◌<◌, ◌≤◌, ◌^◌, ◌∷◌, ◌&&◌, ◌↔◌, length, true, false, not, nat_le, Some, None, IfOk, OnOk, IsErr, IsErrOf};
+ghost use Rattle.protocol_model.specs.World.{Edits};
 ghost use Rattle.protocol_model.specs.World as refusal;
 ghost use Rattle.protocol_model.specs.Limits.{connection_limit, budget_limit, player_limit};
 ghost use Rattle.class_layout.specs.Tables.{table_in};
@@ -98,8 +98,8 @@ impl<'a> Driver<'a> {
         &self.graph
     }
 
-    /// The change lists: at the n-th tick each living actor that was relevant to a living connection and
-    /// not quiet there has a sample under the number n. Of a spent driver they say nothing.
+    /// The change lists, which stand for the samples that were taken. Of a spent driver they say
+    /// nothing.
     pub fn changes(&self) -> &Shadows
         ensures { (s : Served) → Serves self.now s → KeepsSamples result.now s.samples }
     {
@@ -169,8 +169,9 @@ impl<'a> Driver<'a> {
         }
     }
 
-    /// A player joins, with a budget of 1 to 1,000,000 bits a tick. `Joined` exactly where the player
-    /// joined before, else `ServerFull` exactly where 64 did. After `Memory` the driver is spent.
+    /// A player joins, with a budget of 1 to 1,000,000 bits a tick. `Joined` exactly where the
+    /// player joined before, else `ServerFull` exactly where 64 did. After `Memory` the driver is
+    /// spent.
     pub fn join(&mut self, player: Player, budget: u32, version: Version) -> Result<(), JoinRefusal>
         requires least { 1 ≤ budget }
         requires most { budget ≤ budget_limit }

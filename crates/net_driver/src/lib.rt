@@ -9,20 +9,20 @@
 //
 //     let mut server = Driver::new(alloc, &classes)?;
 //     server.join(player, 100_000, Version::Two)?;
-//     let pawn = server.edit(Edit::Spawn { class: 0, x: 3, y: 4 })?;
-//     ..
-//     match server.call(player, pawn, 2, &args)? {
-//         CallAnswer::Queued => ..,
-//         refused => ..,
+//     if let Some(pawn) = server.edit(Edit::Spawn { class: 0, x: 3, y: 4 })? {
+//         match server.call(player, pawn, 2, &args)? {
+//             CallAnswer::Queued => ..,
+//             refused => ..,
+//         }
 //     }
 //
 // It stands on `world_table` and `rep_graph` for the world and what goes along with it, on
 // `shadow_changes` for change lists, on `actor_sender`, `link_end` and `channel_table` for what an
 // end keeps, and on `payload_writing` for the bits of a call. It promises that each answer is that
 // of the definitions over what this player's own end did, and that nothing of another connection
-// changes. Want of memory in a call ends that player's end alone; in an edit or a join it spends the
-// driver. It has no clock and no socket. Datagrams that come in and ticks that send aren't here:
-// until they are, no actor is ever opened, and no call goes out.
+// changes. Want of memory in a call ends that player's end alone; in an edit or a join it spends
+// the driver. It has no clock and no socket. Datagrams that come in and ticks that send aren't
+// here: until they are, no actor is ever opened, and no call goes out.
 #![tactic(auto)]
 
 mod calling;

@@ -1,6 +1,5 @@
 // What no clause says of a server: that joins, edits and calls succeed with ample memory.
-ghost use Rattle.std.specs.Prelude.{◌⊎◌, ◌≤◌};
-ghost use Rattle.protocol_model.specs.Limits.{player_limit};
+ghost use Rattle.std.specs.Prelude.{◌⊎◌};
 ghost use Rattle.net_driver.specs.Served.{Served};
 ghost use Rattle.net_driver.specs.Serves.{Serves, IsSpent};
 

@@ -1,5 +1,5 @@
 // What a player's end hears, and what is asked of it.
-ghost use Rattle.std.specs.Prelude.{◌≡◌, ◌≢◌, ◌⊎◌, ◌+◌, ◌<◌, ◌≤◌, ◌^◌, ◌∷◌, ℕ, map, true, Some, IfOk, OnOk, OnErr, IsErr, option_map};
+ghost use Rattle.std.specs.Prelude.{◌≡◌, ◌≢◌, ◌⊎◌, ◌+◌, ◌<◌, ◌≤◌, ◌^◌, ℕ, map, true, Some, IfOk, OnOk, OnErr, IsErr, option_map};
 ghost use Rattle.std.specs.Option.{option_copied};
 ghost use Rattle.protocol_model.specs.Side.{AtServer};
 ghost use Rattle.protocol_model.specs.Value.{call_at};
@@ -40,9 +40,9 @@ impl<'a> Driver<'a> {
         top_in(&self.ends, place_of(self.chairs.as_slice(), player))
     }
 
-    /// Makes a call to a player who joined, of an actor that was spawned: a Client or Multicast call of
-    /// its class, with arguments that fit. After `Memory` that player's end is dead, and all else is as
-    /// it was.
+    /// Makes a call to a player who joined, of an actor that was spawned: a Client or Multicast
+    /// call of its class, with arguments that fit. After `Memory` that player's end is dead, and
+    /// all else is as it was.
     pub fn call(
         &mut self,
         player: Player,

@@ -1,11 +1,11 @@
-use Rattle.std.proofs.Common.{◌≡◌, ◌≢◌, inr, Some, None, [], ◌∷◌, true, false, refl, sym, ap, ◌∙◌, subst, arith}
+use Rattle.std.proofs.Common.{inr, [], ◌∷◌, true, refl, sym, ap, ◌∙◌, subst, arith}
 use Rattle.std.proofs.lemmas.Option.{none-some}
 use Rattle.std.specs.Prelude.{codes, pos}
 use Rattle.protocol_model.specs.BuiltIn.{built_in_table, pawn}
 use Rattle.protocol_model.specs.declared.Way.{Way}
 use Rattle.protocol_model.specs.declared.Kind.{Kind}
-use Rattle.protocol_model.specs.Value.{Table, Call, call_at, goes_up}
-use Rattle.protocol_model.specs.World.{Edits, Spawn, spawn_of, class_of}
+use Rattle.protocol_model.specs.Value.{Table, Call}
+use Rattle.protocol_model.specs.World.{Edits, Spawn}
 use Rattle.value_codec.specs.declared.args.Arg.{Arg}
 use Rattle.value_codec.specs.declared.value.Value.{Value}
 use Rattle.class_layout.specs.Tables.{table_in}

@@ -1,26 +1,23 @@
-use Rattle.std.proofs.Common.{◌≡◌, ◌≢◌, ◌⊎◌, inl, inr, ℕ, ◌+◌, ◌∷◌, List, map, true, false, Some, None, Option, option_map, refl, sym, ap, ◌∙◌, subst, arith}
+use Rattle.std.proofs.Common.{◌≡◌, inl, inr, ℕ, ◌+◌, List, map, Some, None, option_map, refl, sym, ap, ◌∙◌, subst, arith}
 use Rattle.std.specs.Option.{option_copied}
 use Rattle.std.proofs.lemmas.Bool.{false≢true}
-use Rattle.std.proofs.lemmas.Option.{same_Some, none-some}
-use Rattle.protocol_model.specs.Side.{AtServer}
-use Rattle.protocol_model.specs.Value.{Call, call_at}
-use Rattle.protocol_model.specs.World.{Edits, class_of}
+use Rattle.std.proofs.lemmas.Option.{none-some}
+use Rattle.protocol_model.specs.Value.{call_at}
+use Rattle.protocol_model.specs.World.{class_of}
 use Rattle.connection_model.specs.Feed.{Past}
 use Rattle.connection_model.specs.Feed as feed
-use Rattle.connection_model.specs.CallAnswers.{answer_of}
 use Rattle.class_layout.specs.Tables.{Layout, table_in, entries_in}
 use Rattle.class_members.specs.Members.{call_of}
 use Rattle.value_codec.specs.Values.{arg_of}
 use Rattle.net_driver.specs.Chairs.{place_in, living_key}
 use Rattle.net_driver.specs.declared.chair.Chair.{Chair}
-use Rattle.net_driver.specs.declared.chair.Place.TheVariants.{Living}
 use Rattle.table_model.specs.Facts.{IsTable}
 use Rattle.net_driver.specs.Ends.{end_at}
-use Rattle.net_driver.specs.Served.{Served, Seat, answer_for, end_for, past_for, with_seat, heard}
+use Rattle.net_driver.specs.Served.{Served, end_for, past_for, with_seat, heard}
 use Rattle.net_driver.specs.Serves.{Drive, Serves}
 use Rattle.net_driver.specs.Calls.{IsMade}
-use Rattle.net_driver.proofs.Placing.{for_place, living_is, dead_is, dies}
-use Rattle.net_driver.proofs.CallHeard.{heard_by, call_living}
+use Rattle.net_driver.proofs.Placing.{dead_is, dies}
+use Rattle.net_driver.proofs.CallHeard.{heard_by}
 use Rattle.net_driver.proofs.Meaning.{made_fits, fits_too}
 use Rattle.net_driver.proofs.CallServed.{IsReady, ready_end, served, answers}
 use Rattle.net_driver.proofs.driver.Driver.call.Goals as goal

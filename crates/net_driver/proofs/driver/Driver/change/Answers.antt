@@ -1,9 +1,8 @@
-use Rattle.std.proofs.Common.{◌≡◌, ◌∷◌, Ok, refl, sym, ap, ◌∙◌, subst}
+use Rattle.std.proofs.Common.{Ok, refl, sym, ap, ◌∙◌, subst}
 use Rattle.class_layout.specs.Tables.{Layout, table_in}
 use Rattle.world_table.specs.Answers.{refusal_in}
 use Rattle.rep_graph.specs.Standings.{look_before}
 use Rattle.rep_graph.specs.Graph.{Stands as StandsGraph}
-use Rattle.net_driver.specs.Served.{Served}
 use Rattle.net_driver.specs.Serves.{Serves}
 use Rattle.rep_graph.proofs.Accepted.{none_stands}
 use Rattle.net_driver.proofs.Answers.{of_ok, if_ok, if_err}

@@ -1,4 +1,4 @@
-use Rattle.std.proofs.Common.{◌≡◌, sym, subst}
+use Rattle.std.proofs.Common.{sym, subst}
 use Rattle.net_driver.specs.Serves.{Serves}
 use Rattle.net_driver.proofs.Answers.{on_ok}
 use Rattle.net_driver.proofs.Joining.{seated}

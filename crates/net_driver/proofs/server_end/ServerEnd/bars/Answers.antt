@@ -1,5 +1,5 @@
-use Rattle.std.proofs.Common.{◌≡◌, ◌&&◌, Bool, true, false, not, refl, sym, ap, ◌∙◌}
-use Rattle.connection_model.specs.CallAnswers.{is_to_owner, is_seen_owned}
+use Rattle.std.proofs.Common.{◌&&◌, Bool, not, sym, ap, ◌∙◌}
+use Rattle.connection_model.specs.CallAnswers.{is_seen_owned}
 use Rattle.net_driver.proofs.server_end.ServerEnd.bars.Goals as goal
 
 pub returns-then-goes_to_owner : goal.returns-then-goes_to_owner

@@ -1,7 +1,6 @@
-use Rattle.std.proofs.Common.{◌≡◌, ◌≢◌, ℕ, List, map, true, false, Some, None, refl, sym, ap, ◌∙◌, subst, arith}
+use Rattle.std.proofs.Common.{◌≡◌, ◌≢◌, map, None, sym, ◌∙◌, subst, arith}
 use Rattle.protocol_model.specs.Side.{AtServer}
 use Rattle.protocol_model.specs.declared.CallAnswer.TheVariants.{Queued, NotOpen, NotOwner}
-use Rattle.protocol_model.specs.Payload.{message_bits, Calls}
 use Rattle.connection_model.specs.Feed.{End, Past}
 use Rattle.connection_model.specs.CallAnswers.{call_channel}
 use Rattle.class_members.specs.Members.{call_of}
@@ -9,7 +8,7 @@ use Rattle.value_codec.specs.Values.{arg_of}
 use Rattle.shadow_changes.specs.Samples.{Samples}
 use Rattle.net_driver.specs.Ends.{StandsEnd}
 use Rattle.net_driver.proofs.Answers.{on_ok, each_ok}
-use Rattle.net_driver.proofs.CallAnswers.{not_open, after_refused, opened_by, IsMeant, barred, reliable_answer, reliable_after, loose_answer, loose_after}
+use Rattle.net_driver.proofs.CallAnswers.{not_open, after_refused, opened_by, barred, reliable_answer, reliable_after, loose_answer, loose_after}
 use Rattle.net_driver.proofs.server_end.ServerEnd.call.Goals as goal
 
 closed : (c : goal.In_default) (end : End) (past : Past) (samples : Samples)

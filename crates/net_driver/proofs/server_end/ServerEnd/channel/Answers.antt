@@ -1,4 +1,4 @@
-use Rattle.std.proofs.Common.{◌≡◌, refl, sym, ◌∙◌}
+use Rattle.std.proofs.Common.{refl, sym, ◌∙◌}
 use Rattle.connection_model.specs.State.{index_of}
 use Rattle.net_driver.proofs.CallAnswers.{channel_is}
 use Rattle.net_driver.proofs.server_end.ServerEnd.channel.Goals as goal

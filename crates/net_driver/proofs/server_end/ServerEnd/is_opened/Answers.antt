@@ -1,4 +1,4 @@
-use Rattle.std.proofs.Common.{◌≡◌, ap, ◌∙◌}
+use Rattle.std.proofs.Common.{ap, ◌∙◌}
 use Rattle.connection_model.specs.State.{is_opened}
 use Rattle.net_driver.proofs.server_end.ServerEnd.is_opened.Goals as goal
 

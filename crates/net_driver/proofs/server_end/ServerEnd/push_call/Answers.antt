@@ -1,11 +1,11 @@
-use Rattle.std.proofs.Common.{◌≡◌, ◌≤◌, inr, subst, ℕ, [], true, false, length, refl, sym, ap, ◌∙◌, arith}
+use Rattle.std.proofs.Common.{◌≡◌, inr, [], true, false, length, refl, ap, ◌∙◌, arith}
 use Rattle.std.specs.Prelude.{nat_lt}
 use Rattle.protocol_model.specs.Side.{AtServer}
 use Rattle.protocol_model.specs.Payload.{Calls, part_count}
 use Rattle.connection_model.specs.Feed.{Past}
 use Rattle.connection_model.specs.Bunches.{room}
 use Rattle.channel_table.specs.Keeps.{Keeps as KeepsTable}
-use Rattle.net_driver.proofs.CallAnswers.{more, no_more, link_made, table_made, nothing_pends, few_parts}
+use Rattle.net_driver.proofs.CallAnswers.{more, no_more, link_made, table_made, nothing_pends}
 use Rattle.net_driver.proofs.server_end.ServerEnd.push_call.Goals as goal
 
 full : (c : goal.After-drop-payload-inside) (past : Past) → KeepsTable c.args.self.now.table AtServer past

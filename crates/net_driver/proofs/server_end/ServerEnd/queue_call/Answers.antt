@@ -1,8 +1,8 @@
-use Rattle.std.proofs.Common.{◌≡◌, ℕ, ◌∷◌, true, refl, sym, ap, subst, ◌∙◌, length, arith}
+use Rattle.std.proofs.Common.{◌∷◌, refl, sym, ap, ◌∙◌}
 use Rattle.protocol_model.specs.Side.{AtServer}
 use Rattle.protocol_model.specs.Payload.{Calls, Message}
-use Rattle.connection_model.specs.Feed.{Past, Waits}
-use Rattle.channel_table.specs.Channels.{Channels, WaitingCall}
+use Rattle.connection_model.specs.Feed.{Waits}
+use Rattle.channel_table.specs.Channels.{Channels}
 use Rattle.channel_laws.proofs.Alike.{alike_waits}
 use Rattle.net_driver.proofs.CallAnswers.{few_is, table_waits, waiting_ignored}
 use Rattle.net_driver.proofs.server_end.ServerEnd.queue_call.Goals as goal
