@@ -181,34 +181,34 @@ fn turn_of(
 
 /// The turn of an actor with this record, which is relevant.
 fn own_turn(
-    record: &mut ActorRecord,
+    kept: &mut ActorRecord,
     class: &Class,
     seen: &Seen,
     place: usize,
     tick: u64,
     changes: &Shadows,
 ) -> Result<Option<Turn>, Memory>
-    ensures actor { OnOk result (record.new.actor ≡ record.old.actor) }
-    ensures life { OnOk result (record.new.life ≡ record.old.life) }
-    ensures service { OnOk result (record.new.service ≡ record.old.service) }
+    ensures actor { OnOk result (kept.new.actor ≡ kept.old.actor) }
+    ensures life { OnOk result (kept.new.life ≡ kept.old.life) }
+    ensures service { OnOk result (kept.new.service ≡ kept.old.service) }
     ensures packets { OnOk result ((layout : Layout) (past : Past) (samples : Samples)
         → seen.now.relevant ≡ true
-        → IsReady layout changes.now past samples tick seen.now record.old
-        → (h : ℕ) → (handle_in record.new.handles.handles h).packet
-        ≡ (handle_in record.old.handles.handles h).packet) }
+        → IsReady layout changes.now past samples tick seen.now kept.old
+        → (h : ℕ) → (handle_in kept.new.handles.handles h).packet
+        ≡ (handle_in kept.old.handles.handles h).packet) }
     ensures turn { IfOk result (λ turn. (layout : Layout) (past : Past) (samples : Samples)
         → class_at (table_in layout) seen.now.class ≡ class_of layout.segments class.now
         → seen.now.relevant ≡ true
-        → IsReady layout changes.now past samples tick seen.now record.old
-        → HasTurned layout past samples place seen.now record.new turn) }
+        → IsReady layout changes.now past samples tick seen.now kept.old
+        → HasTurned layout past samples place seen.now kept.new turn) }
 {
-    if record.life.state.is_opened() {
-        compare(&mut record.handles, class, seen, tick, changes)?;
-        let due = has_marked(&record.handles, class, seen);
-        return Ok(turn_if(due, &record.service, class, seen, place, tick, false));
+    if kept.life.state.is_opened() {
+        compare(&mut kept.handles, class, seen, tick, changes)?;
+        let due = has_marked(&kept.handles, class, seen);
+        return Ok(turn_if(due, &kept.service, class, seen, place, tick, false));
     }
-    let opens = wants_open(&record.life, seen.dormant, seen.flush);
-    Ok(turn_if(opens, &record.service, class, seen, place, tick, true))
+    let opens = wants_open(&kept.life, seen.dormant, seen.flush);
+    Ok(turn_if(opens, &kept.service, class, seen, place, tick, true))
 }
 
 /// The turn of an actor with this service, if it has something to send.

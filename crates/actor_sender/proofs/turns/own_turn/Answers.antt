@@ -10,7 +10,7 @@ use Rattle.actor_sender.proofs.turns.own_turn.Goals as goal
 
 pub returns-then-is_opened-clause-turn : goal.returns-then-is_opened-clause-turn
 returns-then-is_opened-clause-turn c = λ layout past samples class relevant ready.
-    let there = opened_there past (samples_of samples c.args.seen.now.actor) c.args.seen.now.actor c.args.record.now
+    let there = opened_there past (samples_of samples c.args.seen.now.actor) c.args.seen.now.actor c.args.kept.now
     ready.keeps
     (sym c.is_opened.ensures ∙ c.if-is_opened.true) in
     let compared = c.in_ok-compare.ensures.compared layout past samples class ready.noted (ready.before there.1)
@@ -45,7 +45,7 @@ returns-clause-turn c = λ layout past samples class relevant ready.
 
 pub returns-then-is_opened-clause-packets : goal.returns-then-is_opened-clause-packets
 returns-then-is_opened-clause-packets c = λ layout past samples relevant ready.
-    let there = opened_there past (samples_of samples c.args.seen.now.actor) c.args.seen.now.actor c.args.record.now
+    let there = opened_there past (samples_of samples c.args.seen.now.actor) c.args.seen.now.actor c.args.kept.now
     ready.keeps
     (sym c.is_opened.ensures ∙ c.if-is_opened.true) in
     c.in_ok-compare.ensures.packets ((ready.values relevant there.1).0)

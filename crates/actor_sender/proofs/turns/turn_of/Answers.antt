@@ -13,8 +13,8 @@ pub returns-clause-turn : goal.returns-clause-turn
 returns-clause-turn c = λ past samples ready.
     let old_is : record_in c.args.records.now.entries c.args.seen.now.actor ≡ c.in-Some-get_mut.record.now =
     first_of (search rules, grind (arith, common_steps)) in
-    let new_is : record_in (c.get_mut.follows.lender c.own_turn.new.record).entries c.args.seen.now.actor
-    ≡ c.own_turn.new.record = first_of (search rules, grind (arith, common_steps)) in
+    let new_is : record_in (c.get_mut.follows.lender c.own_turn.new.kept).entries c.args.seen.now.actor
+    ≡ c.own_turn.new.kept = first_of (search rules, grind (arith, common_steps)) in
     subst (λ (r : ActorRecord). HasTurned c.args.classes.now past samples c.args.place c.args.seen.now r
     c.in_ok-turn.turn) (sym new_is)
     (c.in_ok-turn.ensures.turn c.args.classes.now past samples
@@ -27,8 +27,8 @@ pub returns-clause-packets : goal.returns-clause-packets
 returns-clause-packets c = λ past samples ready h.
     let old_is : record_in c.args.records.now.entries c.args.seen.now.actor ≡ c.in-Some-get_mut.record.now =
     first_of (search rules, grind (arith, common_steps)) in
-    let new_is : record_in (c.get_mut.follows.lender c.own_turn.new.record).entries c.args.seen.now.actor
-    ≡ c.own_turn.new.record = first_of (search rules, grind (arith, common_steps)) in
+    let new_is : record_in (c.get_mut.follows.lender c.own_turn.new.kept).entries c.args.seen.now.actor
+    ≡ c.own_turn.new.kept = first_of (search rules, grind (arith, common_steps)) in
     ap (λ (r : ActorRecord). (handle_in r.handles.handles h).packet) new_is
     ∙ c.in_ok-turn.ensures.packets c.args.classes.now past samples
     (sym (ap (λ (s : Seen). s.relevant) c.seen.view_is) ∙ c.if-not-seen.false)
