@@ -22,3 +22,4 @@ pub mod Called
 pub mod Goes
 pub mod Pushes
 pub mod Live
+pub mod Waiting

@@ -5,3 +5,4 @@ pub mod States
 pub mod Hearing
 pub mod Closing
 pub mod Turning
+pub mod Calling

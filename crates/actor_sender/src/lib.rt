@@ -4,6 +4,7 @@
 //     fates move        moved          told to the updates, and to the opens and closes, under way
 //     tick begins       take_in        what the client knows, whom the sight shows
 //     actors end        make_closes    closes, dormant closes and Gones, each on its channel
+//     calls that wait   offer_calls    each where its actor is opened
 //     before it sends   find_turns     who has something to send, by score
 //     asked             state, was_opened, shows_owned, quiet, settled
 //
@@ -29,6 +30,7 @@
 // and its packets, aren't here.
 #![tactic(auto)]
 
+mod calls;
 mod closes;
 mod closing;
 mod heard;
@@ -46,6 +48,7 @@ mod turns;
 #[cfg(test)]
 mod turns_tests;
 
+pub use calls::offer_calls;
 pub use channel_table::ChannelTable;
 pub use class_layout::{Classes, Pair, PairList};
 pub use link_end::FateMove;
