@@ -237,7 +237,7 @@ same_filtered p us vs hu hv f g =
     (λ n e. among_filtered p us n (f n (passes p vs n e)) (passes p vs n e))
 
 -- who was opened is among those that were
-opened_among : (past : Past) (a : ℕ) → was_opened past a ≡ true → is_among a (filter_map opened_in past) ≡ true
+pub opened_among : (past : Past) (a : ℕ) → was_opened past a ≡ true → is_among a (filter_map opened_in past) ≡ true
 opened_among [] a e = absurd (false≢true e)
 opened_among (Made ch n (Opens exports actor class values) i ∷ past) a e = by (actor == a) e (opened_among past a)
   where

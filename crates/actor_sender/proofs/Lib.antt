@@ -23,3 +23,14 @@ pub mod Goes
 pub mod Pushes
 pub mod Live
 pub mod Waiting
+pub mod Serving
+pub mod Updated
+pub mod Noting
+pub mod KnownAfter
+pub mod Unknown
+pub mod Inserting
+pub mod Unsent
+pub mod Entering
+pub mod FreeIndex
+pub mod Packed
+pub mod KnownMade

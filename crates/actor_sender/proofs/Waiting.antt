@@ -1,5 +1,5 @@
 -- Calls that wait are offered one after another.
-use Rattle.std.proofs.Common.{◌≡◌, ℕ, zero, suc, ◌+◌, ◌<◌, ◌≤◌, List, [], ◌∷◌, ◌++◌, map, length, drop, slice_get, filter_map, Bool, true, false, not, Option, Some, None, is_some, option_map, refl, sym, ap, ◌∙◌, subst, arith, if◌then◌else◌}
+use Rattle.std.proofs.Common.{◌≡◌, ℕ, zero, suc, ◌+◌, ◌<◌, ◌≤◌, List, [], ◌∷◌, ◌++◌, map, length, drop, slice_get, filter_map, Bool, true, false, not, Option, Some, None, is_some, option_map, refl, sym, ap, ◌∙◌, arith, if◌then◌else◌}
 use Rattle.std.specs.List.{cons_option}
 use Rattle.std.proofs.lemmas.Bool.{false≢true}
 use Rattle.std.proofs.lemmas.List.{length-map}
@@ -10,11 +10,10 @@ use Rattle.protocol_model.specs.Side.{AtServer}
 use Rattle.connection_model.specs.CallAnswers.{call_channel, waiting_of}
 use Rattle.connection_model.specs.Feed.{End, Past, Item}
 use Rattle.connection_model.specs.Items.{loose_item, call_item}
-use Rattle.connection_model.specs.Pack.{Packing, has_room, after_offer}
+use Rattle.connection_model.specs.Pack.{Packing, after_offer}
 use Rattle.connection_model.specs.State as model
 use Rattle.connection_model.specs.State.{state_of, index_of, is_opened}
 use Rattle.packing_laws.specs.Beginning.{after_offers}
-use Rattle.packing_laws.proofs.Packings.{offer_past}
 use Rattle.packing_laws.proofs.Sendings.{state_behind, index_behind}
 use Rattle.link_end.specs.Link.{Link}
 use Rattle.link_end.specs.Packs.{sent_now}
@@ -43,7 +42,8 @@ not_false true e = refl
 not_false false e = absurd (false≢true (sym e))
 
 -- the index on which a call goes is kept
-pub kept_channel : (past : Past) (a : ℕ) (l : Life) → KeepsLife past a l → index_opened l ≡ call_channel AtServer past a
+pub kept_channel : (past : Past) (a : ℕ) (l : Life) → KeepsLife past a l
+    → index_opened l ≡ call_channel AtServer past a
 kept_channel past a l k =
     ap (λ (s : model.ActorState). if is_opened s then l.index else None) k.state
     ∙ ap (λ (o : Option ℕ). if is_opened (state_of past a) then o else None) k.index
@@ -174,8 +174,8 @@ module _ (records : List (ℕ × ActorRecord)) (l now : Link) (t : Channels) (en
     (h : IsCalling records l t end before p) (i : ℕ) (g : Calling now t end before p i) (call : WaitingCall)
     (e : ◌≡◌ {A = Option WaitingCall} (Some call) (slice_get t.waiting i)) where
   pub next_of : Next (waiting_of before) i call
-  next_of = next_call (waiting_of before) i call (ap (λ (ws : List WaitingCall). slice_get ws i) (sym h.waiting)
-      ∙ sym e)
+  next_of =
+      next_call (waiting_of before) i call (ap (λ (ws : List WaitingCall). slice_get ws i) (sym h.waiting) ∙ sym e)
 
   pub channel_of : index_opened (record_in records call.actor).life ≡ call_channel AtServer g.p.past call.actor
   channel_of =
@@ -183,8 +183,8 @@ module _ (records : List (ℕ × ActorRecord)) (l now : Link) (t : Channels) (en
       ∙ ap (λ (past : Past). call_channel AtServer past call.actor) (sym g.past)
 
 -- all calls that may wait were offered
-pub all_offered : (records : List (ℕ × ActorRecord)) (l : Link) (t : Channels) (end : End) (before : Past) (p : Packing)
-    (i : ℕ) → IsCalling records l t end before p → waiting_limit ≤ i → drop i (waiting_of before) ≡ []
+pub all_offered : (records : List (ℕ × ActorRecord)) (l : Link) (t : Channels) (end : End) (before : Past)
+    (p : Packing) (i : ℕ) → IsCalling records l t end before p → waiting_limit ≤ i → drop i (waiting_of before) ≡ []
 all_offered records l t end before p i h le =
     none_left (waiting_of before) i
     (omega (arith, le, h.may.few, ap length h.waiting, length-map (waiting_of before) waiting_call))
@@ -217,8 +217,8 @@ module _ (l later : Link) (t : Channels) (end : End) (before : Past) (start : Pa
       → after_offers end g.p (items_of g.p.past n.message)
       ≡ after_offers end start (filter_map (call_item AtServer start.past) (waiting_of before))
   calling_full full =
-      sym (all_full end (after_offers end g.p (items_of g.p.past n.message))
-      (items_from start.past before (i + 1)) full)
+      sym (all_full end (after_offers end g.p (items_of g.p.past n.message)) (items_from start.past before (i + 1))
+      full)
       ∙ goes_next
 
 pub calling_done : (l : Link) (t : Channels) (end : End) (before : Past) (start : Packing) (i : ℕ)

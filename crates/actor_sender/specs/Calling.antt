@@ -28,12 +28,14 @@ AreLives past records = (a : ℕ) → KeepsLife past a (record_in records a).lif
 -- no more calls wait than may, each with a payload that has room in one bunch
 pub record MayWait (waiting : List WaitingCall) : Type 0 where
   pub few : length waiting ≤ waiting_limit
-  pub short : (i : ℕ) (call : WaitingCall) → slice_get waiting i ≡ Some call → length call.bits ≤ part_bits
+  pub short : (i : ℕ) (call : WaitingCall) → slice_get waiting i ≡ Some call
+      → length call.bits ≤ part_bits
 
--- in a tick that began after `before` and in which each item found room: link, channels and records stand for what was
--- done by now, as if the tick were to end now, and the calls wait that waited before it
-pub record IsCalling (records : List (ℕ × ActorRecord)) (l : Link) (t : Channels) (end : End) (before : Past)
-    (p : Packing) : Type 0 where
+-- in a tick that began after `before` and in which each item found room: link, channels and records
+-- stand for what was done by now, as if the tick were to end now, and the calls wait that waited
+-- before it
+pub record IsCalling (records : List (ℕ × ActorRecord)) (l : Link) (t : Channels) (end : End)
+    (before : Past) (p : Packing) : Type 0 where
   pub both : PacksBoth l t end AtServer before p
   pub is_ready : p.full ≡ false
   pub lives : AreLives (sent_now p) records

@@ -6,3 +6,5 @@ pub mod Hearing
 pub mod Closing
 pub mod Turning
 pub mod Calling
+pub mod Updating
+pub mod Opening

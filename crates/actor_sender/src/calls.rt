@@ -1,5 +1,5 @@
 // The unreliable calls of a tick.
-ghost use Rattle.std.specs.Prelude.{◌≡◌, ◌<◌, ◌≤◌, ℕ, List, [], ◌∷◌, length, filter_map, false, not, Some, IfOk, OnOk, OnErr};
+ghost use Rattle.std.specs.Prelude.{◌≡◌, ◌<◌, ◌≤◌, ℕ, [], ◌∷◌, length, filter_map, false, not, Some, IfOk, OnOk, OnErr};
 ghost use Rattle.protocol_model.specs.Limits.{part_bits};
 ghost use Rattle.protocol_model.specs.Packet.{channel_limit};
 ghost use Rattle.protocol_model.specs.Payload.{Message, actor_of, message_bits};

@@ -5,7 +5,9 @@
 //     tick begins       take_in        what the client knows, whom the sight shows
 //     actors end        make_closes    closes, dormant closes and Gones, each on its channel
 //     calls that wait   offer_calls    each where its actor is opened
-//     before it sends   find_turns     who has something to send, by score
+//     before turns      find_turns     who has something to send, by score
+//     a turn            update         what is due of an actor that is opened
+//     an open           spell_open     free_channel, spell_open before it; keep_open once it is made
 //     asked             state, was_opened, shows_owned, quiet, settled
 //
 // A server's end that hears of packets, and begins a tick:
@@ -24,10 +26,10 @@
 // Gone say, on `class_layout` for classes and values, and on `sender_laws`. It promises that what
 // is kept stands for all that the end did (`Keeps`), so that every answer is that of the
 // definitions over this whole list; that a channel is given up exactly where its close has arrived;
-// that exactly the closes are made that a tick calls for; and that exactly the actors have a turn
-// that have something to send, in the order of their scores. It knows no world, as what a player
-// sees is handed to it, and no other connection. It doesn't send: the opens and updates of a tick,
-// and its packets, aren't here.
+// that exactly the closes are made that a tick calls for; that exactly the actors have a turn
+// that have something to send, in the order of their scores; and that an update holds what is due.
+// It knows no world, as what a player sees is handed to it, and no other connection. The steps of a
+// tick stand by themselves: an open isn't offered here, and no call makes a whole tick of them.
 #![tactic(auto)]
 
 mod calls;
@@ -36,6 +38,7 @@ mod closing;
 mod heard;
 pub mod laws;
 mod moved;
+mod opening;
 mod sender;
 mod sent;
 mod settled;
@@ -47,12 +50,15 @@ mod tidying;
 mod turns;
 #[cfg(test)]
 mod turns_tests;
+mod updating;
 
 pub use calls::offer_calls;
 pub use channel_table::ChannelTable;
 pub use class_layout::{Classes, Pair, PairList};
 pub use link_end::FateMove;
+pub use opening::{SpelledOpen, free_channel, keep_open, spell_open};
 pub use sender::ActorSender;
 pub use sender_records::ActorState;
 pub use sight::{Seen, Sight};
 pub use turns::{Turn, find_turns};
+pub use updating::update;

@@ -316,7 +316,7 @@ fn has_marked(handles: &HandleTable, class: &Class, seen: &Seen) -> bool
 }
 
 /// An update may hold the handle, and it is marked.
-fn is_due(handles: &HandleTable, class: &Class, owns: bool, pair: &Pair) -> bool
+pub(crate) fn is_due(handles: &HandleTable, class: &Class, owns: bool, pair: &Pair) -> bool
     ensures { (segments : List Segment)
         → result ≡ (is_updatable_in (class_of segments class.now) owns pair.now.prop
         && (handle_in handles.now.handles pair.now.prop).marked) }

@@ -1,4 +1,4 @@
-use Rattle.std.proofs.Common.{◌≡◌, not, sym, ap, subst, ◌∙◌}
+use Rattle.std.proofs.Common.{not, sym, ap, subst, ◌∙◌}
 use Rattle.protocol_model.specs.Side.{AtServer}
 use Rattle.connection_model.specs.Items.{loose_item}
 use Rattle.connection_model.specs.Pack.{Packing}
