@@ -8,8 +8,8 @@ ghost use Rattle.connection_model.specs.State.{state_of, index_of};
 ghost use Rattle.shadow_changes.specs.Samples.{Samples};
 ghost use Rattle.sender_laws.specs.Acts.{IsAlike};
 ghost use Rattle.sender_laws.specs.States.{is_pending};
-ghost use Rattle.actor_sender.specs.Sender.{Sender};
-ghost use Rattle.actor_sender.specs.Stands.{Keeps};
+ghost use Rattle.sender_steps.specs.Sender.{Sender};
+ghost use Rattle.sender_steps.specs.Stands.{Keeps};
 
 /// A sender is right about each past in which the same was done and moved; what was heard, handed
 /// on or waits may differ.

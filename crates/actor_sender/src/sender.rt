@@ -15,25 +15,21 @@ ghost use Rattle.class_layout.specs.Tables.{Layout};
 ghost use Rattle.shadow_changes.specs.Samples.{Samples};
 ghost use Rattle.sender_records.specs.Actors.{fresh_actor};
 ghost use Rattle.sender_records.specs.Life.{state_value};
-ghost use Rattle.actor_sender.specs.Sender.{record_at};
-ghost use Rattle.actor_sender.specs.Sights.{seen_value, sight_value, actors_in};
-ghost use Rattle.actor_sender.specs.States.{is_quiet_as};
-ghost use Rattle.actor_sender.specs.Stands.{Keeps, KeepsBoth, StandsBoth, IsSpent};
+ghost use Rattle.sender_steps.specs.Sender.{record_at};
+ghost use Rattle.sender_steps.specs.Sights.{seen_value, sight_value, actors_in};
+ghost use Rattle.sender_steps.specs.States.{is_quiet_as};
+ghost use Rattle.sender_steps.specs.Stands.{Keeps, KeepsBoth, StandsBoth, IsSpent};
 
-use crate::closes::close_all;
-use crate::heard::hear_all;
-use crate::moved::{drop_known, tell_updates};
-use crate::sent::{OpenSent, UpdateSent};
-use crate::settled::is_settled;
-use crate::sight::{Seen, Sight};
-use crate::taking::{learn, show_all};
-use crate::tidying::tidy;
 use bit_io::Memory;
 use channel_table::ChannelTable;
 use class_layout::Classes;
 use link_end::FateMove;
 use net_core::Guid;
 use sender_records::{ActorRecord, ActorState};
+use sender_steps::{
+    OpenSent, Seen, Sight, UpdateSent, close_all, drop_known, hear_all, is_settled, learn,
+    show_all, tell_updates, tidy,
+};
 use std::alloc::Global;
 use std::collections::HashMap;
 use std::marker::Model;
@@ -53,7 +49,7 @@ pub struct ActorSender {
 }
 
 impl Model for ActorSender {
-    ghost use Rattle.actor_sender.specs.Sender.{Sender};
+    ghost use Rattle.sender_steps.specs.Sender.{Sender};
 
     ghost Value = { Sender };
 

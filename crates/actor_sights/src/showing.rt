@@ -11,7 +11,7 @@ ghost use Rattle.world_table.specs.Answers.{look_of};
 ghost use Rattle.world_table.specs.Stands.{Stands};
 ghost use Rattle.sender_records.specs.Handles.{pairs_of};
 ghost use Rattle.actor_sights.specs.Sampled.{values_of};
-ghost use Rattle.actor_sender.specs.Sights.{seen_value};
+ghost use Rattle.sender_steps.specs.Sights.{seen_value};
 ghost use Rattle.actor_sights.specs.Visible.{visible_among};
 
 use actor_sender::Seen;

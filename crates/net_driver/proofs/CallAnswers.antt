@@ -21,7 +21,7 @@ use Rattle.channel_table.specs.Channels.{Channels, WaitingCall}
 use Rattle.channel_table.specs.Keeps.{Keeps as KeepsTable}
 use Rattle.channel_table.specs.Stands.{Stands as StandsTable, waiting_call, channel_bound, IsPaired}
 use Rattle.sender_laws.specs.States.{is_pending}
-use Rattle.actor_sender.proofs.Unseen.{call_index}
+use Rattle.sender_steps.proofs.Unseen.{call_index}
 
 -- ---- answers
 

@@ -6,7 +6,7 @@ use Rattle.protocol_model.specs.Limits.{connection_limit}
 use Rattle.protocol_model.specs.Search.{insert_in_order}
 use Rattle.connection_model.specs.Feed.{End}
 use Rattle.class_layout.specs.Tables.{table_in}
-use Rattle.actor_sender.specs.Stands.{Stands}
+use Rattle.sender_steps.specs.Stands.{Stands}
 use Rattle.net_driver.specs.declared.server_end.ServerEnd.{ServerEnd}
 use Rattle.net_driver.specs.declared.chair.Chair.{Chair}
 use Rattle.net_driver.specs.declared.chair.Place.{Place}

@@ -5,7 +5,7 @@ use Rattle.protocol_model.specs.World.{Edits, spawn_of, class_of}
 use Rattle.connection_model.specs.Feed.{End, Past, has_ended}
 use Rattle.connection_model.specs.State.{opened_class}
 use Rattle.shadow_changes.specs.Samples.{Samples}
-use Rattle.actor_sender.specs.Stands.{Stands, Extends}
+use Rattle.sender_steps.specs.Stands.{Stands, Extends}
 use Rattle.net_driver.specs.declared.server_end.ServerEnd.{ServerEnd}
 use Rattle.net_driver.specs.declared.chair.Place.{Place}
 use Rattle.net_driver.specs.declared.chair.Place.TheVariants.{Living, Dead}

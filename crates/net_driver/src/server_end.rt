@@ -2,7 +2,7 @@
 ghost use Rattle.std.specs.Prelude.{◌≡◌, ◌≤◌, [], IfOk};
 ghost use Rattle.protocol_model.specs.Limits.{budget_limit};
 ghost use Rattle.connection_model.specs.Feed.{End};
-ghost use Rattle.actor_sender.specs.Stands.{Stands};
+ghost use Rattle.sender_steps.specs.Stands.{Stands};
 
 use actor_sender::ActorSender;
 use bit_io::Memory;

@@ -1,4 +1,4 @@
-use Rattle.actor_sender.proofs.Unseen.{call_keeps}
+use Rattle.sender_steps.proofs.Unseen.{call_keeps}
 use Rattle.actor_sender.proofs.laws.call_is_unseen.Goals as goal
 
 pub returns : goal.returns

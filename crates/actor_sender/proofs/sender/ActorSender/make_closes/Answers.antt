@@ -1,10 +1,10 @@
 use Rattle.std.proofs.Common.{arith, ◌≡◌, ◌∙◌, ℕ, List, length, ap, sym, refl, subst}
 use Rattle.connection_laws.specs.Run.{Ascends}
-use Rattle.actor_sender.specs.declared.sight.Seen.{Seen}
-use Rattle.actor_sender.specs.Closing.{IsTicked}
-use Rattle.actor_sender.specs.Sender.{Sender}
-use Rattle.actor_sender.specs.Sights.{sight_value, actors_in}
-use Rattle.actor_sender.specs.Stands.{KeepsBoth}
+use Rattle.sender_steps.specs.declared.sight.Seen.{Seen}
+use Rattle.sender_steps.specs.Closing.{IsTicked}
+use Rattle.sender_steps.specs.Sender.{Sender}
+use Rattle.sender_steps.specs.Sights.{sight_value, actors_in}
+use Rattle.sender_steps.specs.Stands.{KeepsBoth}
 use Rattle.actor_sender.proofs.sender.ActorSender.make_closes.Goals as goal
 
 pub close_all-requires-clause-stands : goal.close_all-requires-clause-stands

@@ -5,12 +5,12 @@ use Rattle.change_model.specs.Changes.{Sample}
 use Rattle.connection_model.specs.Feed.{Past}
 use Rattle.sender_laws.specs.Acts.{MovesTo}
 use Rattle.sender_records.specs.Handles.{KeepsHandles}
-use Rattle.actor_sender.specs.declared.sent.UpdateSent.{UpdateSent}
-use Rattle.actor_sender.specs.Hearing.{Hearing, IsGrown}
+use Rattle.sender_steps.specs.declared.sent.UpdateSent.{UpdateSent}
+use Rattle.sender_steps.specs.Hearing.{Hearing, IsGrown}
 use Rattle.protocol_model.specs.Side.{AtServer}
-use Rattle.actor_sender.specs.Sender.{Sender, record_in}
-use Rattle.actor_sender.specs.Stands.{StandsBoth}
-use Rattle.actor_sender.proofs.Moving.{MovesAll, both_later}
+use Rattle.sender_steps.specs.Sender.{Sender, record_in}
+use Rattle.sender_steps.specs.Stands.{StandsBoth}
+use Rattle.sender_steps.proofs.Moving.{MovesAll, both_later}
 use Rattle.actor_sender.proofs.sender.ActorSender.moved.Goals as goal
 
 pub returns : goal.returns

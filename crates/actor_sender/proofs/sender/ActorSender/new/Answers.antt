@@ -1,5 +1,5 @@
 use Rattle.std.proofs.Common.{refl}
-use Rattle.actor_sender.proofs.Fresh.{new_keeps}
+use Rattle.sender_steps.proofs.Fresh.{new_keeps}
 use Rattle.actor_sender.proofs.sender.ActorSender.new.Goals as goal
 
 pub returns : goal.returns

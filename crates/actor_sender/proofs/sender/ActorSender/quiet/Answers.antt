@@ -6,7 +6,7 @@ use Rattle.change_model.specs.Changes.{Sample}
 use Rattle.sender_records.specs.declared.actor.ActorRecord.{ActorRecord}
 use Rattle.sender_records.specs.Life.{state_value}
 use Rattle.sender_records.specs.Actors.{KeepsActor}
-use Rattle.actor_sender.specs.States.{is_quiet_as}
+use Rattle.sender_steps.specs.States.{is_quiet_as}
 use Rattle.std.proofs.Common.{List}
 use Rattle.actor_sender.proofs.sender.ActorSender.quiet.Goals as goal
 

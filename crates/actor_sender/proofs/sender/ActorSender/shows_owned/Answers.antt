@@ -1,7 +1,7 @@
 use Rattle.std.proofs.Common.{◌≡◌, ◌∙◌, ℕ, ap, sym, subst}
 use Rattle.sender_records.specs.declared.actor.ActorRecord.{ActorRecord}
 use Rattle.sender_records.specs.Service.{KeepsService, fresh_service}
-use Rattle.actor_sender.specs.Sender.{Sender}
+use Rattle.sender_steps.specs.Sender.{Sender}
 use Rattle.actor_sender.proofs.sender.ActorSender.shows_owned.Goals as goal
 
 pub returns-in-Some : goal.returns-in-Some

@@ -2,11 +2,11 @@ use Rattle.std.proofs.Common.{rules, arith, ◌≡◌, ◌∙◌, ℕ, ◌+◌, 
 use Rattle.std.proofs.lemmas.Grind.{common_steps}
 use Rattle.connection_model.specs.Feed.{Ticked}
 use Rattle.connection_laws.specs.Run.{Ascends}
-use Rattle.actor_sender.specs.declared.sight.Seen.{Seen}
-use Rattle.actor_sender.specs.Sender.{Sender}
-use Rattle.actor_sender.specs.Sights.{sight_value, actors_in}
-use Rattle.actor_sender.specs.Stands.{Keeps, AreServed}
-use Rattle.actor_sender.proofs.Begun.{TakesIn, takes_in}
+use Rattle.sender_steps.specs.declared.sight.Seen.{Seen}
+use Rattle.sender_steps.specs.Sender.{Sender}
+use Rattle.sender_steps.specs.Sights.{sight_value, actors_in}
+use Rattle.sender_steps.specs.Stands.{Keeps, AreServed}
+use Rattle.sender_steps.proofs.Begun.{TakesIn, takes_in}
 use Rattle.actor_sender.proofs.sender.ActorSender.take.Goals as goal
 
 pub returns : goal.returns

@@ -1,7 +1,0 @@
-use Rattle.actor_sender.proofs.Live.{ClosedSoFar}
-use Rattle.actor_sender.proofs.closes.close_all.Given as goal
-
-abbrev pub invariant-loop-actor : goal.invariant-loop-actor
-invariant-loop-actor l = ClosedSoFar l.initial.records.entries l.initial.pending.items l.initial.table l.live l.classes
-    l.sight l.tick l.actor-index l.at
-    l.records.entries l.pending.items l.table

@@ -1,6 +1,0 @@
-use Rattle.actor_sender.proofs.Hears.{Hears}
-use Rattle.actor_sender.proofs.heard.hear_all.Given as goal
-
-abbrev pub invariant-loop-actor : goal.invariant-loop-actor
-invariant-loop-actor l = Hears l.pending l.actor-index l.initial.records.entries l.records.entries l.initial.table
-    l.table

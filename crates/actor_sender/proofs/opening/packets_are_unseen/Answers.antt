@@ -1,8 +1,0 @@
-use Rattle.actor_sender.proofs.Packed.{keeps_begun, keeps_item}
-use Rattle.actor_sender.proofs.opening.packets_are_unseen.Goals as goal
-
-pub returns-clause-begun : goal.returns-clause-begun
-returns-clause-begun c = keeps_begun
-
-pub returns-clause-item : goal.returns-clause-item
-returns-clause-item c = keeps_item

@@ -1,6 +1,0 @@
-use Rattle.actor_sender.proofs.Finding.{TurnedSoFar}
-use Rattle.actor_sender.proofs.turns.gather.Given as goal
-
-abbrev pub invariant-loop-place : goal.invariant-loop-place
-invariant-loop-place l =
-    TurnedSoFar l.classes l.changes l.tick l.sight l.place l.initial.records.entries l.records.entries l.turns.items

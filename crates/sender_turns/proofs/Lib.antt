@@ -1,0 +1,15 @@
+pub mod Comparing
+pub mod Finding
+pub mod Unserved
+pub mod Waiting
+pub mod Serving
+pub mod Updated
+pub mod Noting
+pub mod KnownAfter
+pub mod Unknown
+pub mod Inserting
+pub mod Unsent
+pub mod Entering
+pub mod FreeIndex
+pub mod Packed
+pub mod KnownMade

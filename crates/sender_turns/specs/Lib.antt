@@ -1,0 +1,4 @@
+pub mod Turning
+pub mod Calling
+pub mod Updating
+pub mod Opening
