@@ -29,17 +29,8 @@
 //
 // A crate above proves its tick for the sight that it was given, and goes over to the whole one:
 //
-//     use Rattle.sight_laws.proofs.Feeds.{same_self}
-//     use Rattle.sight_laws.proofs.Sending.{tick_same}
-//     use Rattle.sight_laws.proofs.Unsighted.{states_same}
-//
-//     -- an actor's state after a tick doesn't depend on which of the two was given
-//     state_given : (end : End) (past : Past) (shown given : List Seen) → IsSight shown
-//         → Shows past shown given → (a : ℕ)
-//         → state_of (after_tick end past given) a ≡ state_of (after_tick end past shown) a
-//     state_given end past shown given order s a =
-//         let same = tick_same end past past shown given (same_self past) order s in
-//         states_same (after_tick end past shown) (after_tick end past given) same.done a
+//     let same = tick_same end past past shown given (same_self past) order shows in
+//     states_same (after_tick end past shown) (after_tick end past given) same.done actor
 #![tactic(auto)]
 
 pub mod asks;
