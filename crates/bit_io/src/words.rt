@@ -150,6 +150,9 @@ fn bits_by_bytes(bytes: &[u8], at: usize, width: u32) -> u64
     value
 }
 
+/// The most bits of a part that lie in eight bytes wherever in a byte they begin, in bits.
+const WORD_PART: usize = 56;
+
 /// Adds so many bits of other bytes at a place from which on all bits are 0.
 pub(crate) fn add_slice(bytes: &mut Vec<u8>, at: usize, source: &[u8], from: usize, count: usize)
     requires room { at + count ≤ 8 * length bytes.old.items }
@@ -166,7 +169,7 @@ pub(crate) fn add_slice(bytes: &mut Vec<u8>, at: usize, source: &[u8], from: usi
 {
     let mut done = 0usize;
     while done < count {
-        let width = (count - done).min(64) as u32;
+        let width = (count - done).min(WORD_PART) as u32;
         let part = bits_at(source, from + done, width);
         add_bits(bytes, at + done, part, width);
         done += width as usize;

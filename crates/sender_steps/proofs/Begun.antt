@@ -1,14 +1,14 @@
 -- A sender once a tick has begun.
-use Rattle.std.proofs.Common.{◌≡◌, ◌∙◌, ℕ, ◌+◌, ◌<◌, ◌==◌, List, [], ◌∷◌, length, Bool, true, false, not, cond, ◌||◌, ap, sym, refl, subst, arith}
+use Rattle.std.proofs.Common.{◌≡◌, ◌∙◌, ℕ, ◌+◌, ◌<◌, ◌==◌, List, [], ◌∷◌, Bool, true, false, not, cond, ◌||◌, ap, sym, refl, subst, arith}
 use Rattle.std.specs.List.{filter, list_any}
-use Rattle.std.proofs.lemmas.Bool.{cases_Bool, eqb-true, false≢true}
+use Rattle.std.proofs.lemmas.Bool.{eqb-true, false≢true}
 use Rattle.protocol_model.specs.Search.{is_among}
 use Rattle.protocol_model.specs.Sight.{Seen}
-use Rattle.connection_model.specs.Feed.{Past, Deed, Ticked, tick_count}
+use Rattle.connection_model.specs.Feed.{Past, tick_count}
 use Rattle.connection_model.specs.Fates.{high_of}
 use Rattle.connection_model.specs.State.{is_open, is_closed}
 use Rattle.connection_laws.specs.Run.{Ascends}
-use Rattle.connection_laws.proofs.ActorMarks.{index_same}
+use Rattle.connection_laws.proofs.ActorMarks.{Grows, index_same}
 use Rattle.packing_laws.specs.Beginning.{ticked}
 use Rattle.shadow_changes.specs.Samples.{Samples, samples_of}
 use Rattle.sender_laws.specs.States.{is_pending}
@@ -19,11 +19,9 @@ use Rattle.sender_records.specs.Life.{KeepsLife, state_value}
 use Rattle.sender_records.specs.Handles.{HandlesKept, KeepsHandles, handle_in}
 use Rattle.sender_records.proofs.Frames.{life_ticked, handles_like}
 use Rattle.sender_steps.specs.declared.sent.OpenSent.{OpenSent}
-use Rattle.sender_steps.specs.Hearing.{IsGrown}
 use Rattle.sender_steps.specs.Sender.{Sender, record_in, packet_in}
 use Rattle.sender_steps.specs.Stands.{Keeps, AreServed, AreOpensMade, is_known_by, is_update_sent}
-use Rattle.sender_steps.proofs.Showing.{above_low}
-use Rattle.sender_steps.proofs.Unseen.{known_next}
+use Rattle.sender_turns.proofs.KnownMade.{known_sent}
 
 -- what passes the test stays among the rest
 pub among_filtered : (p : ℕ → Bool) (ns : List ℕ) (n : ℕ) → is_among n ns ≡ true → p n ≡ true
@@ -80,7 +78,7 @@ pub record TakesIn (s : Sender) (past : Past) (sight : List Seen) (records : Lis
   pub handles : (a : ℕ) → (record_in records a).handles ≡ (record_in s.records a).handles
   pub served : AreServed (ticked past sight) records
   pub made : AreOpensMade past known opens
-  pub learnt : (later : Past) → IsGrown past later → (g : ℕ)
+  pub learnt : (later : Past) → Grows past later → (g : ℕ)
       → is_known_by later known opens g ≡ is_known_by later s.known s.opens g
 
 abbrev pub pends_in : List (ℕ × ActorRecord) → ℕ → Bool
@@ -134,8 +132,8 @@ module _ (s : Sender) (past : Past) (samples : Samples) (sight : List Seen) (rec
         (awake (is_closed (state_value (record_in records a).life.state)) e);
     opened = λ a e. k.opened a (among_left (lives_in records) s.live a e);
     ascends = ascends_filtered (lives_in records) s.live 0 k.ascends;
-    known = known_next past (ticked past sight) (λ whole g. refl) (λ c n. refl) (λ c n. refl) known opens
-        (λ later e grows g. k.known later e grows g ∙ sym (h.learnt later (record { done = e; grows = grows }) g));
+    known = known_sent past (ticked past sight) known opens refl (λ c n e. e)
+        (λ later made grows g. k.known later made grows g ∙ sym (h.learnt later grows g));
     opens = λ i o at. record { made = (h.made i o at).made; places = (h.made i o at).places };
     low = λ a ch e. k.low a ch (sym (index_same past (ticked past sight) (λ c n. refl) a refl) ∙ e);
     below = λ ch le. k.below ch le;

@@ -1,30 +1,28 @@
 -- A sender once an actor was closed, or was told as gone.
-use Rattle.std.proofs.Common.{◌≡◌, ◌≢◌, ◌∙◌, inl, inr, ℕ, ◌+◌, ◌<◌, ◌≤◌, ◌==◌, List, [], ◌∷◌, length, Bool, true, false, cond, ◌&&◌, ◌||◌, ap, sym, refl, subst, arith, Some}
+use Rattle.std.proofs.Common.{◌≡◌, ◌≢◌, ◌∙◌, inl, inr, ℕ, ◌+◌, ◌<◌, ◌≤◌, ◌==◌, List, [], length, Bool, true, false, cond, ◌&&◌, ◌||◌, ap, sym, refl, subst, arith, Some}
 use Rattle.std.specs.List.{list_any}
-use Rattle.std.proofs.lemmas.Bool.{cases_eq, ne_eqb, false≢true}
+use Rattle.std.proofs.lemmas.Bool.{cases_eq, false≢true}
 use Rattle.protocol_model.specs.Limits.{channels_one}
-use Rattle.protocol_model.specs.Payload.{Message, Closes, Gone, parts_of}
+use Rattle.protocol_model.specs.Payload.{Message, parts_of}
 use Rattle.protocol_model.specs.Search.{is_among, greatest_of}
 use Rattle.protocol_model.specs.Side.{AtServer}
 use Rattle.change_model.specs.Changes.{Sample}
 use Rattle.connection_model.specs.Feed.{Past, tick_count}
 use Rattle.connection_model.specs.Fates.{moved_of, high_of}
 use Rattle.connection_model.specs.Bunches.{after_making, made_count, have_arrived}
-use Rattle.connection_model.specs.State.{ActorState, Mark, is_open, is_closed, was_opened, index_of, last_mark}
-use Rattle.connection_model.specs.Exports.{made_known, is_known, exports_segment}
+use Rattle.connection_model.specs.State.{is_open, is_closed, was_opened, index_of, last_mark}
+use Rattle.connection_model.specs.Exports.{made_known, exports_segment}
 use Rattle.connection_model.specs.Items.{is_open_made}
-use Rattle.connection_laws.proofs.ActorMarks.{Grows, index_same, mark_made, marks, same_grows}
+use Rattle.connection_laws.proofs.ActorMarks.{index_same, mark_made, marks, same_grows}
 use Rattle.connection_laws.proofs.Moves.{making_keeps}
 use Rattle.channel_table.specs.Channels.{Channels}
 use Rattle.channel_table.specs.Holders.{Bound, channel_bound, IsPaired}
 use Rattle.channel_table.specs.Keeps.{Keeps as KeepsTable}
 use Rattle.shadow_changes.specs.Samples.{Samples, samples_of}
-use Rattle.sender_laws.specs.Acts.{acts}
 use Rattle.sender_laws.specs.States.{is_pending}
-use Rattle.sender_laws.proofs.Makes.{arrivals_under, carrier_under, count_elsewhere, count_under, moved_under, opened_under, service_elsewhere, sight_under, ticks_under}
+use Rattle.sender_laws.proofs.Makes.{arrivals_under, count_elsewhere, count_under, moved_under, opened_under, service_elsewhere, sight_under, ticks_under}
 use Rattle.sender_laws.proofs.Opens.{carry_elsewhere}
 use Rattle.sender_records.specs.declared.actor.ActorRecord.{ActorRecord}
-use Rattle.sender_records.specs.declared.life.Life.{Life}
 use Rattle.sender_records.specs.declared.service.Service.{Service}
 use Rattle.sender_records.specs.Life.{KeepsLife, state_value}
 use Rattle.sender_records.specs.Service.{KeepsService}
@@ -34,9 +32,9 @@ use Rattle.sender_records.proofs.Frames.{actor_made, handles_like}
 use Rattle.sender_records.proofs.ServiceSteps.{service_same}
 use Rattle.sender_steps.specs.declared.sent.OpenSent.{OpenSent}
 use Rattle.sender_steps.specs.Sender.{Sender, record_in, packet_in}
-use Rattle.sender_steps.specs.Stands.{Keeps, KeepsBoth, is_known_by, is_update_sent}
+use Rattle.sender_steps.specs.Stands.{KeepsBoth, KnowsMade, is_update_sent}
 use Rattle.sender_steps.proofs.Records.{everywhere}
-use Rattle.sender_steps.proofs.Unseen.{known_next}
+use Rattle.sender_turns.proofs.KnownMade.{known_next}
 
 -- ---- what goes on
 
@@ -49,11 +47,7 @@ pub record GoesOn (past later : Past) (a : ℕ) : Type 0 where
       → KeepsHandles later samples a t
   pub moved : moved_of later ≡ moved_of past
   pub opened : (b : ℕ) → was_opened past b ≡ true → was_opened later b ≡ true
-  pub known : (known : List Bool) (opens : List OpenSent)
-      → ((after : Past) → acts after ≡ acts past → Grows past after → (g : ℕ)
-      → is_known after g ≡ is_known_by after known opens g)
-      → (after : Past) → acts after ≡ acts later → Grows later after → (g : ℕ)
-      → is_known after g ≡ is_known_by after known opens g
+  pub known : (known : List Bool) (opens : List OpenSent) → KnowsMade past known opens → KnowsMade later known opens
   pub counts : (ch : ℕ) → made_count past ch ≤ made_count later ch
   pub below : (ch : ℕ) → channels_one ≤ ch → made_count later ch ≡ made_count past ch
   pub index : (b : ℕ) → index_of later b ≡ index_of past b
@@ -119,8 +113,9 @@ module _ (past : Past) (a ch : ℕ) (m : Message) (h : IsEnding past a ch m) whe
         (omega (arith, ap length (ticks_under [] past ch m))) k;
     moved = moved_under [] past ch m;
     opened = λ b e. opened_under [] past refl ch m b ∙ more (is_open_made b m) e;
-    known = known_next past (after_making past ch m) (λ whole g. no_segment whole past ch m g (h.unknown g))
-        (carrier_under [] past ch m) (arrivals_under [] past ch m);
+    known = λ known opens. known_next past (after_making past ch m) known opens
+        (λ whole g. no_segment whole past ch m g (h.unknown g))
+        (same_grows past (after_making past ch m) (arrivals_under [] past ch m));
     counts = counts_more;
     below = λ c le. count_elsewhere [] past refl ch m c (λ q. absurd (omega (arith, q, le, h.low)));
     index = λ b. elim (cases_eq a b) [

@@ -1,24 +1,21 @@
 -- A sender that keeps nothing stands for a past in which nothing was done.
-use Rattle.std.proofs.Common.{◌≡◌, ◌∙◌, ℕ, ◌≤◌, List, [], Bool, true, false, ◌||◌, ap, sym, refl, subst, arith, unwrap_or, Option, Some, None}
+use Rattle.std.proofs.Common.{◌≡◌, ◌∙◌, ℕ, List, [], Bool, false, ◌||◌, ap, sym, refl, subst, arith, unwrap_or, Option, Some, None}
 use Rattle.std.specs.Map.{lookup}
 use Rattle.std.specs.Prelude.{nat_eq, slice_index_or}
 use Rattle.std.specs.List.{list_any, slice_get}
 use Rattle.std.proofs.lemmas.Bool.{false≢true}
 use Rattle.change_model.specs.Changes.{Sample}
 use Rattle.protocol_model.specs.Search.{is_among}
-use Rattle.connection_model.specs.Feed.{Past}
 use Rattle.connection_model.specs.State.{is_open, is_closed}
-use Rattle.connection_model.specs.Exports.{is_known}
 use Rattle.connection_laws.specs.Run.{Ascends}
-use Rattle.sender_laws.specs.Acts.{acts}
 use Rattle.sender_laws.specs.States.{is_pending}
-use Rattle.sender_laws.proofs.Views.{known_acts}
 use Rattle.sender_records.specs.declared.actor.ActorRecord.{ActorRecord}
 use Rattle.sender_records.specs.Life.{state_value}
 use Rattle.sender_records.specs.Actors.{KeepsActor, fresh_actor}
 use Rattle.sender_steps.specs.declared.sent.OpenSent.{OpenSent}
 use Rattle.sender_steps.specs.Sender.{Sender, record_at}
 use Rattle.sender_steps.specs.Stands.{Keeps, makes_known}
+use Rattle.sender_turns.proofs.KnownMade.{known_makes}
 
 fresh_keeps : (samples : List Sample) (a : ℕ) → KeepsActor [] samples a (fresh_actor a)
 fresh_keeps samples a = record {
@@ -46,8 +43,8 @@ new_keeps s records live known opens ticks spent = record {
   live = λ a p. absurd (false≢true (sym p ∙ ap (λ (r : ActorRecord). is_closed (state_value r.life.state)) (none a)));
   opened = λ a e. absurd (false≢true (sym (ap (is_among a) live) ∙ e));
   ascends = subst (Ascends 0) (sym live) tt;
-  known = λ later done grows g.
-      known_acts [] later done later g
+  known = λ later made grows g.
+      known_makes later [] made later g
       ∙ sym (ap (λ (ks : List Bool). slice_index_or ks g false || list_any (makes_known later g) s.opens) known
       ∙ ap (λ (os : List OpenSent). list_any (makes_known later g) os) opens);
   opens = λ i o at. absurd (let no : (let q : Option OpenSent = None in q) ≡ Some o =

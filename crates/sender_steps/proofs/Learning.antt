@@ -1,7 +1,7 @@
 -- Opens that have arrived whole: what they made known before is known by the places that they leave.
-use Rattle.std.proofs.Common.{◌≡◌, ◌∙◌, ◌⊎◌, inl, inr, ℕ, zero, suc, ◌+◌, ◌-◌, ◌<◌, ◌≤◌, nat_lt, List, [], ◌∷◌, length, Bool, true, false, not, cond, ◌&&◌, ◌||◌, ap, sym, refl, subst, arith, Option, Some, None, is_some, slice_index_or}
+use Rattle.std.proofs.Common.{◌≡◌, ◌∙◌, inl, inr, ℕ, zero, suc, ◌+◌, ◌-◌, ◌<◌, ◌≤◌, nat_lt, List, [], ◌∷◌, length, Bool, true, false, not, cond, ◌&&◌, ◌||◌, ap, sym, refl, subst, arith, Option, Some, None, is_some, slice_index_or}
 use Rattle.std.specs.List.{list_any, filter, slice_get}
-use Rattle.std.proofs.lemmas.Bool.{cases_Bool, cases_lt, false≢true, and_parts}
+use Rattle.std.proofs.lemmas.Bool.{cases_lt, false≢true}
 use Rattle.std.proofs.lemmas.Bool.Decides.{nat_tests}
 use Rattle.std.proofs.lemmas.List.{get_or_past}
 use Rattle.std.proofs.lemmas.Option.{slice_get_cases}
@@ -9,16 +9,16 @@ use Rattle.protocol_model.specs.Packet.{Bunch}
 use Rattle.protocol_model.specs.Side.{AtServer}
 use Rattle.protocol_model.specs.Search.{newest_of, is_among}
 use Rattle.connection_model.specs.Feed.{Past}
-use Rattle.connection_model.specs.Bunches.{has_arrived, have_arrived, made_count, least_unarrived}
+use Rattle.connection_model.specs.Bunches.{have_arrived, made_count, least_unarrived}
 use Rattle.connection_model.specs.Items.{made_as}
+use Rattle.connection_laws.proofs.ActorMarks.{Grows}
 use Rattle.sender_laws.proofs.Arriving.{have_each, have_stays}
 use Rattle.outgoing_channels.proofs.Bunches.{early_arrived, least_most}
-use Rattle.outgoing_channels.specs.Keeps.{KeepsOut, kept_bunch}
+use Rattle.outgoing_channels.specs.Keeps.{KeepsOut}
 use Rattle.outgoing_channels.specs.Made.{out_at}
 use Rattle.channel_table.specs.Channels.{Channels}
 use Rattle.channel_table.specs.Keeps.{Keeps}
 use Rattle.sender_steps.specs.declared.sent.OpenSent.{OpenSent}
-use Rattle.sender_steps.specs.Hearing.{IsGrown}
 use Rattle.sender_steps.specs.Stands.{is_open_gone, has_known, makes_known, is_known_by, IsOpenMade, AreOpensMade}
 
 -- ---- one open
@@ -143,16 +143,16 @@ module _ (t : Channels) (past : Past) (known left : List Bool) (opens : List Ope
       by true e more = absurd (omega (arith, le, (m zero o refl).places g e))
       by false e more = rw e more
 
-  pub learnt : (later : Past) → IsGrown past later → (g : ℕ)
+  pub learnt : (later : Past) → Grows past later → (g : ℕ)
       → is_known_by later left (filter (λ (o : OpenSent). not (is_open_gone past o)) opens) g
       ≡ is_known_by later known opens g
-  learnt later grown g = elim (cases_lt g (length known)) [
+  learnt later grows g = elim (cases_lt g (length known)) [
     | inl lt ↦ ap (λ (b : Bool). b || list_any (makes_known later g)
         (filter (λ (o : OpenSent). not (is_open_gone past o)) opens)) (places g lt)
         ∙ turned (list_any (has_known past g) opens) (slice_index_or known g false)
         (list_any (makes_known later g) (filter (λ (o : OpenSent). not (is_open_gone past o)) opens))
         (list_any (makes_known later g) opens)
-        (parted past later g opens (λ i o at gone. have_stays past later grown.grows o.channel 1 o.last
+        (parted past later g opens (λ i o at gone. have_stays past later grows o.channel 1 o.last
         (gone_arrived t past known o k (made i o at) gone)))
     | inr le ↦ (
         let none : list_any (makes_known later g) (filter (λ (o : OpenSent). not (is_open_gone past o)) opens) ≡ false =

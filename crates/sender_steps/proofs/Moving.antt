@@ -32,6 +32,7 @@ use Rattle.sender_steps.specs.declared.sent.UpdateSent.{UpdateSent}
 use Rattle.sender_steps.specs.Sender.{Sender, record_in, packet_in}
 use Rattle.sender_steps.specs.Hearing.{Hearing, IsGrown}
 use Rattle.sender_steps.specs.Stands.{Keeps, StandsBoth, is_update_sent}
+use Rattle.sender_turns.proofs.KnownMade.{known_sent, makes_done}
 use Rattle.sender_steps.proofs.News.{move_is, waiting_same}
 use Rattle.sender_steps.proofs.AfterMove.{Told, told_keeps, later_apart}
 
@@ -250,8 +251,8 @@ module _ (from to : ℕ) (s : Sender) (told heard : List (ℕ × ActorRecord)) (
       );
       places = (both.sender.opens i o at).places;
     };
-    known = λ next e g. both.sender.known next (e ∙ m.done) (λ ch n q. g ch n
-        (moved_grows from to past later m ch n q));
+    known = known_sent past later s.known s.opens (makes_done past later m.done) (moved_grows from to past later m)
+        both.sender.known;
     ticks = both.sender.ticks ∙ sym (ap length (ticks_alike past later m.done));
     kept = both.sender.kept;
   }

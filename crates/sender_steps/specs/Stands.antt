@@ -1,13 +1,13 @@
 -- How what a sender keeps follows from what the end did and from the samples of its last tick.
 use Rattle.std.specs.List.{list_any}
-use Rattle.std.specs.Prelude.{◌≡◌, ◌≢◌, ◌<◌, ◌≤◌, ◌==◌, ◌&&◌, ◌||◌, ℕ, List, ◌∷◌, ◌++◌, length, Bool, true, false, not, Some, is_some, slice_get, slice_index_or}
+use Rattle.std.specs.Prelude.{◌≡◌, ◌≢◌, ◌<◌, ◌≤◌, ◌==◌, ◌&&◌, ◌||◌, ℕ, List, ◌∷◌, ◌++◌, length, Bool, true, false, not, Some, is_some, filter, slice_get, slice_index_or}
 use Rattle.protocol_model.specs.Limits.{channels_one}
 use Rattle.protocol_model.specs.Side.{AtServer}
 use Rattle.protocol_model.specs.Search.{newest_of, is_among}
 use Rattle.protocol_model.specs.Sight.{Seen}
 use Rattle.protocol_model.specs.Value.{Pair}
 use Rattle.change_model.specs.Changes.{Sample}
-use Rattle.connection_model.specs.Feed.{End, Past, tick_count}
+use Rattle.connection_model.specs.Feed.{End, Past, Deed, Made, tick_count}
 use Rattle.connection_model.specs.Fates.{high_of}
 use Rattle.connection_model.specs.Bunches.{has_arrived, have_arrived, made_count}
 use Rattle.connection_model.specs.State.{is_open, is_closed, was_opened, index_of}
@@ -22,7 +22,6 @@ use Rattle.channel_table.specs.Keeps.{Keeps as KeepsTable}
 use Rattle.channel_table.specs.Stands.{Stands as StandsTable}
 use Rattle.shadow_changes.specs.Samples.{Samples, samples_of}
 use Rattle.sender_laws.specs.Values.{place_of, AreAbove, tick_now}
-use Rattle.sender_laws.specs.Acts.{acts}
 use Rattle.sender_laws.specs.States.{is_pending}
 use Rattle.sender_records.specs.Service.{KeepsService}
 use Rattle.sender_records.specs.declared.actor.ActorRecord.{ActorRecord}
@@ -38,6 +37,22 @@ makes_known past g o = is_among g o.guids && have_arrived past o.channel 1 o.las
 -- the segment was taken for known, or one of these opens makes it known
 abbrev pub is_known_by : Past → List Bool → List OpenSent → (guid : ℕ) → Bool
 is_known_by past known opens g = slice_index_or known g false || list_any (makes_known past g) opens
+
+-- the deed made a bunch
+abbrev pub is_made : Deed → Bool
+is_made (Made channel number message i) = true
+is_made deed = false
+
+-- the bunches that were made
+abbrev pub makes : Past → Past
+makes past = filter is_made past
+
+-- what is known of every later past with the same bunches made, whatever was sent, is told by the
+-- places and the opens
+abbrev pub KnowsMade : Past → List Bool → List OpenSent → Type 0
+KnowsMade past known opens = (later : Past) → makes later ≡ makes past
+    → ((ch n : ℕ) → has_arrived past ch n ≡ true → has_arrived later ch n ≡ true)
+    → (g : ℕ) → is_known later g ≡ is_known_by later known opens g
 
 -- the open was made, and each of its segments has a place among those that are known or not
 pub record IsOpenMade (past : Past) (known : List Bool) (o : OpenSent) : Type 0 where
@@ -85,9 +100,7 @@ pub record Keeps (s : Sender) (past : Past) (samples : Samples) : Type 0 where
   pub live : (a : ℕ) → is_closed (state_kept s a) ≡ false → is_among a s.live ≡ true
   pub opened : (a : ℕ) → is_among a s.live ≡ true → was_opened past a ≡ true
   pub ascends : Ascends 0 s.live
-  pub known : (later : Past) → acts later ≡ acts past
-      → ((ch n : ℕ) → has_arrived past ch n ≡ true → has_arrived later ch n ≡ true)
-      → (g : ℕ) → is_known later g ≡ is_known_by later s.known s.opens g
+  pub known : KnowsMade past s.known s.opens
   pub opens : AreOpensMade past s.known s.opens
   pub low : AreLow past
   pub below : (ch : ℕ) → channels_one ≤ ch → made_count past ch ≡ 0

@@ -1,10 +1,11 @@
 // What a tick takes in before it makes anything: what the client knows by now, and the sight.
-ghost use Rattle.std.specs.Prelude.{◌≡◌, ◌≢◌, ◌+◌, ◌<◌, ◌∷◌, ◌||◌, ℕ, List, length, false, not, slice_index_or, OnOk};
+ghost use Rattle.std.specs.Prelude.{◌≡◌, ◌≢◌, ◌+◌, ◌<◌, ◌∷◌, ◌||◌, ℕ, List, length, true, false, not, slice_index_or, OnOk};
 ghost use Rattle.std.specs.List.{list_any};
 ghost use Rattle.protocol_model.specs.Search.{is_among};
 ghost use Rattle.protocol_model.specs.Side.{Side, AtServer};
 ghost use Rattle.protocol_model.specs.Sight.{Seen as SeenSpec};
 ghost use Rattle.connection_model.specs.Feed.{Past, Deed, tick_count, is_relevant_in};
+ghost use Rattle.connection_model.specs.Bunches.{has_arrived as has_arrived_in};
 ghost use Rattle.connection_laws.specs.Run.{Ascends};
 ghost use Rattle.channel_table.specs.Keeps.{Keeps as KeepsTable};
 ghost use Rattle.class_layout.specs.Tables.{Layout};
@@ -12,7 +13,6 @@ ghost use Rattle.sender_records.specs.Service.{KeepsService, shows_owned};
 ghost use Rattle.sender_steps.specs.Sender.{record_in};
 ghost use Rattle.sender_steps.specs.Stands.{is_known_by, is_open_gone, has_known, AreOpensMade, AreServed};
 ghost use Rattle.sender_steps.specs.Sights.{sight_value, actors_in};
-ghost use Rattle.sender_steps.specs.Hearing.{IsGrown};
 
 use crate::sent::OpenSent;
 use crate::sight::Seen;
@@ -28,7 +28,8 @@ pub fn learn(opens: &mut Vec<OpenSent>, known: &mut Vec<bool>, table: &ChannelTa
     ensures made { (past : Past) → KeepsTable table.now AtServer past
         → AreOpensMade past known.old.items opens.old.items
         → AreOpensMade past known.new.items opens.new.items }
-    ensures known { (past later : Past) → KeepsTable table.now AtServer past → IsGrown past later
+    ensures known { (past later : Past) → KeepsTable table.now AtServer past
+        → ((ch n : ℕ) → has_arrived_in past ch n ≡ true → has_arrived_in later ch n ≡ true)
         → AreOpensMade past known.old.items opens.old.items → (g : ℕ)
         → is_known_by later known.new.items opens.new.items g
         ≡ is_known_by later known.old.items opens.old.items g }

@@ -29,7 +29,7 @@ use Rattle.sender_steps.specs.declared.sent.OpenSent.{OpenSent}
 use Rattle.sender_turns.specs.Opening.{AreBound, with_open, MayOpen, IsOpenTold}
 use Rattle.sender_steps.specs.Sender.{Sender, record_in, packet_in}
 use Rattle.sender_steps.specs.Stands.{Keeps, IsOpenMade, is_known_by, is_update_sent, makes_known}
-use Rattle.sender_turns.proofs.KnownAfter.{known_opened}
+use Rattle.sender_turns.proofs.KnownAfter.{made_opened}
 use Rattle.sender_steps.proofs.Pushes.{pushed_itself, pushed_others}
 
 -- what is kept of the open
@@ -257,9 +257,9 @@ module _ (s : Sender) (sent past : Past) (samples : Samples) (a tick : ℕ) (exp
       live = lives;
       opened = opened;
       ascends = h.ascends;
-      known = λ after e grows g.
-          known_opened sent past m o s.known s.opens may.sends may.clear told.last told.guids told.sender.known after e
-          grows g
+      known = λ after made grows g.
+          made_opened sent past m o s.known s.opens may.sends may.clear told.last told.guids told.sender.known after
+          made grows g
           ∙ ap (λ (x : Bool). x || list_any (makes_known after g) (with_open s.opens o)) (sym (h.known_is g))
           ∙ ap (λ (os : List OpenSent). is_known_by after known os g) (sym h.opens_are);
       opens = told_opens;

@@ -1,102 +1,25 @@
 -- What the client knows once an open is made: what it knew, and the open's segments once all up to its last part has
 -- arrived.
-use Rattle.std.proofs.Common.{◌≡◌, ◌∙◌, ℕ, zero, suc, ◌+◌, ◌<◌, ◌≤◌, ◌==◌, List, [], ◌∷◌, ◌++◌, Bool, true, false, not, ◌&&◌, ◌||◌, slice_index_or, refl, ap, sym, subst, arith, append-nil}
-use Rattle.std.specs.List.{list_any, filter}
-use Rattle.std.proofs.lemmas.Grind.{flat_map-append}
+use Rattle.std.proofs.Common.{◌≡◌, ◌∙◌, ℕ, zero, suc, ◌+◌, ◌<◌, ◌≤◌, ◌==◌, List, [], ◌∷◌, ◌++◌, Bool, true, false, ◌&&◌, ◌||◌, slice_index_or, refl, ap, sym, subst, arith}
+use Rattle.std.specs.List.{list_any}
 use Rattle.std.proofs.lemmas.List.Folds.{list_any-append}
 use Rattle.std.proofs.lemmas.Bool.{eq-eqb}
 use Rattle.std.proofs.lemmas.Bool.Decides.{nat_tests}
 use Rattle.protocol_model.specs.Payload.{Message, parts_of}
 use Rattle.protocol_model.specs.Search.{is_among}
-use Rattle.connection_model.specs.Feed.{Past, Ticked, Made, Waits, Sent, Took, Ended, Entry}
-use Rattle.connection_model.specs.Fates.{entries_in, entries_of, moved_by}
-use Rattle.connection_model.specs.Bunches.{made_count, carrier_of, have_arrived, span, after_making}
+use Rattle.connection_model.specs.Feed.{Past, Made}
+use Rattle.connection_model.specs.Bunches.{made_count, have_arrived, span, after_making}
 use Rattle.connection_model.specs.Exports.{exports_segment, made_known}
-use Rattle.connection_laws.proofs.ActorMarks.{Grows, SameArrivals}
-use Rattle.connection_laws.proofs.Arrivals.{arrival_same}
+use Rattle.connection_laws.proofs.ActorMarks.{Grows}
 use Rattle.connection_laws.proofs.Moves.{making_keeps}
 use Rattle.connection_laws.proofs.Spans.{some_parts}
-use Rattle.sender_laws.specs.Acts.{acts, is_act, are_sent}
+use Rattle.sender_laws.specs.Acts.{are_sent}
 use Rattle.sender_laws.proofs.Arriving.{clear_is, have_split, have_stays}
-use Rattle.sender_laws.proofs.Makes.{arrivals_under, carrier_under, count_sent}
-use Rattle.sender_laws.proofs.Views.{carrier_alike, have_alike, known_acts, known_in}
+use Rattle.sender_laws.proofs.Makes.{arrivals_under, count_sent}
 use Rattle.sender_steps.specs.declared.sent.OpenSent.{OpenSent}
-use Rattle.sender_turns.specs.Opening.{KnowsLater, with_open}
-use Rattle.sender_steps.specs.Stands.{makes_known, is_known_by}
-
--- ---- what was heard, apart from what was done
-
--- the deeds that aren't acts
-abbrev heard : Past → Past
-heard past = filter (λ deed. not (is_act deed)) past
-
-entries_heard : (past : Past) → entries_of (heard past) ≡ entries_of past
-entries_heard [] = refl
-entries_heard (Ticked t s ∷ past) = entries_heard past
-entries_heard (Made c n m i ∷ past) = entries_heard past
-entries_heard (Sent n t items ∷ past) = entries_heard past
-entries_heard (Waits m ∷ past) = entries_heard past
-entries_heard (Took n es ds ∷ past) = ap (λ (entries : List Entry). es ++ entries) (entries_heard past)
-entries_heard (Ended e ∷ past) = entries_heard past
-
-entries_done : (past : Past) → entries_of (acts past) ≡ []
-entries_done [] = refl
-entries_done (Ticked t s ∷ past) = entries_done past
-entries_done (Made c n m i ∷ past) = entries_done past
-entries_done (Sent n t items ∷ past) = entries_done past
-entries_done (Waits m ∷ past) = entries_done past
-entries_done (Took n es ds ∷ past) = entries_done past
-entries_done (Ended e ∷ past) = entries_done past
-
-acts_behind : (past done : Past) → acts (heard past ++ acts done) ≡ acts (acts done)
-acts_behind [] done = refl
-acts_behind (Ticked t s ∷ past) done = acts_behind past done
-acts_behind (Made c n m i ∷ past) done = acts_behind past done
-acts_behind (Sent n t items ∷ past) done = acts_behind past done
-acts_behind (Waits m ∷ past) done = acts_behind past done
-acts_behind (Took n es ds ∷ past) done = acts_behind past done
-acts_behind (Ended e ∷ past) done = acts_behind past done
-
-acts_once : (past : Past) → acts (acts past) ≡ acts past
-acts_once [] = refl
-acts_once (Ticked t s ∷ past) = ap (λ (deeds : Past). Ticked t s ∷ deeds) (acts_once past)
-acts_once (Made c n m i ∷ past) = ap (λ (deeds : Past). Made c n m i ∷ deeds) (acts_once past)
-acts_once (Sent n t items ∷ past) = ap (λ (deeds : Past). Sent n t items ∷ deeds) (acts_once past)
-acts_once (Waits m ∷ past) = acts_once past
-acts_once (Took n es ds ∷ past) = acts_once past
-acts_once (Ended e ∷ past) = acts_once past
-
--- ---- what was known before
-
-pub makes_alike : (past later : Past) → SameArrivals past later → (g : ℕ) (opens : List OpenSent)
-    → list_any (makes_known later g) opens ≡ list_any (makes_known past g) opens
-makes_alike past later same g [] = refl
-makes_alike past later same g (o ∷ opens) =
-    ap (λ (b : Bool). (is_among g o.guids && b) || list_any (makes_known later g) opens)
-    (have_alike past later same o.channel 1 o.last)
-    ∙ ap (λ (b : Bool). makes_known past g o || b) (makes_alike past later same g opens)
-
--- the deeds of a past make known what is kept of them, by what has arrived in one that goes on from it with others
-known_before : (past later : Past) (known : List Bool) (opens : List OpenSent)
-    → ((ch n : ℕ) → carrier_of later ch n ≡ carrier_of past ch n) → Grows past later → KnowsLater past known opens
-    → (g : ℕ) → list_any (made_known later g) past ≡ is_known_by later known opens g
-known_before past later known opens carriers grows knows g =
-    let other : Past = heard later ++ acts past in
-    let done : acts other ≡ acts past = acts_behind later past ∙ acts_once past in
-    let entries : entries_of other ≡ entries_of later =
-    flat_map-append entries_in (heard later) (acts past)
-    ∙ ap (λ (es : List Entry). es ++ entries_of (acts past)) (entries_heard later)
-    ∙ ap (λ (es : List Entry). entries_of later ++ es) (entries_done past)
-    ∙ append-nil (entries_of later) in
-    let same : SameArrivals later other =
-    λ ch n. arrival_same later other ch n (carrier_alike past other done ch n ∙ sym (carriers ch n))
-    (ap moved_by entries) in
-    sym (known_in later other same g past)
-    ∙ sym (known_acts past other done other g)
-    ∙ knows other done (λ ch n e. same ch n ∙ grows ch n e) g
-    ∙ ap (λ (b : Bool). slice_index_or known g false || b) (makes_alike later other same g opens)
-
--- ---- the open
+use Rattle.sender_turns.specs.Opening.{with_open}
+use Rattle.sender_steps.specs.Stands.{KnowsMade, makes_known, is_known_by}
+use Rattle.sender_turns.proofs.KnownMade.{known_before, known_makes}
 
 -- its first part makes its segments known, once all its parts have arrived
 open_known : (later past : Past) (ch : ℕ) (m : Message) (g : ℕ)
@@ -192,7 +115,7 @@ one_open later g opens o (h ∷ guids) e =
     some o e = rw e refl
 
 -- what is known of the deeds with an open is what is kept of them, once that is so without it
-pub open_then : (sent past later : Past) (m : Message) (o : OpenSent) (known : List Bool) (opens : List OpenSent)
+open_then : (sent past later : Past) (m : Message) (o : OpenSent) (known : List Bool) (opens : List OpenSent)
     → are_sent sent ≡ true → span (sent ++ past) o.channel ≡ 0 → o.last ≡ made_count past o.channel + parts_of m
     → ((g : ℕ) → exports_segment g m ≡ is_among g o.guids) → Grows (sent ++ past) later → (g : ℕ)
     → list_any (made_known later g) (sent ++ past) ≡ is_known_by later known opens g
@@ -216,15 +139,12 @@ open_then sent past later m o known opens sends clear last exports goes_on g bef
     ∙ ap (λ (b : Bool). slice_index_or known g false || b) (sym (one_open later g opens o o.guids refl))
 
 -- once an open is made and kept, what is known later is told by the places and the opens
-pub known_opened : (sent past : Past) (m : Message) (o : OpenSent) (known : List Bool) (opens : List OpenSent)
+pub made_opened : (sent past : Past) (m : Message) (o : OpenSent) (known : List Bool) (opens : List OpenSent)
     → are_sent sent ≡ true → span (sent ++ past) o.channel ≡ 0 → o.last ≡ made_count past o.channel + parts_of m
-    → ((g : ℕ) → exports_segment g m ≡ is_among g o.guids) → KnowsLater (sent ++ past) known opens
-    → KnowsLater (sent ++ after_making past o.channel m) known (with_open opens o)
-known_opened sent past m o known opens sends clear last exports knows later done grows g =
-    let ch = o.channel in
-    let opened : Past = sent ++ after_making past ch m in
-    let goes_on : Grows (sent ++ past) later = λ c n e. grows c n (arrivals_under sent past ch m c n ∙ e) in
-    known_acts opened later done later g
+    → ((g : ℕ) → exports_segment g m ≡ is_among g o.guids) → KnowsMade (sent ++ past) known opens
+    → KnowsMade (sent ++ after_making past o.channel m) known (with_open opens o)
+made_opened sent past m o known opens sends clear last exports knows later made grows g =
+    let goes_on : Grows (sent ++ past) later = λ c n e. grows c n (arrivals_under sent past o.channel m c n ∙ e) in
+    known_makes later (sent ++ after_making past o.channel m) made later g
     ∙ open_then sent past later m o known opens sends clear last exports goes_on g
-    (known_before (sent ++ past) later known opens
-    (λ c n. carrier_alike opened later done c n ∙ carrier_under sent past ch m c n) goes_on knows g)
+    (known_before (sent ++ past) later known opens goes_on knows g)

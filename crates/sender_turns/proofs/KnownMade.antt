@@ -1,20 +1,17 @@
--- What is known of every later list with the same bunches made, whatever was sent.
-use Rattle.std.proofs.Common.{◌≡◌, ◌∙◌, ℕ, ◌+◌, List, [], ◌∷◌, ◌++◌, Bool, true, false, ◌||◌, slice_index_or, refl, ap, sym}
+-- What is known of every later past with the same bunches made, whatever was sent.
+use Rattle.std.proofs.Common.{◌≡◌, ◌∙◌, ℕ, List, [], ◌∷◌, ◌++◌, Bool, false, ◌&&◌, ◌||◌, slice_index_or, refl, ap, sym}
 use Rattle.std.specs.List.{list_any, filter_map, cons_option, slice_get}
-use Rattle.protocol_model.specs.Payload.{Message, parts_of}
 use Rattle.protocol_model.specs.Search.{is_among}
 use Rattle.connection_model.specs.Feed.{Past, Ticked, Made, Waits, Sent, Took, Ended, Entry}
 use Rattle.connection_model.specs.Fates.{entries_of, moved_by}
-use Rattle.connection_model.specs.Bunches.{made_count, carrier_in, has_arrived, span, after_making}
-use Rattle.connection_model.specs.Exports.{exports_segment, made_known}
+use Rattle.connection_model.specs.Bunches.{carrier_in}
+use Rattle.connection_model.specs.Exports.{made_known}
 use Rattle.connection_laws.proofs.ActorMarks.{Grows, SameArrivals}
 use Rattle.connection_laws.proofs.Arrivals.{arrival_same}
-use Rattle.sender_laws.specs.Acts.{acts, are_sent}
-use Rattle.sender_laws.proofs.Makes.{arrivals_under}
-use Rattle.sender_laws.proofs.Views.{known_in}
+use Rattle.sender_laws.specs.Acts.{acts}
+use Rattle.sender_laws.proofs.Views.{have_alike, known_in}
 use Rattle.sender_steps.specs.declared.sent.OpenSent.{OpenSent}
-use Rattle.sender_turns.specs.Opening.{KnowsLater, KnowsMade, makes, with_open}
-use Rattle.sender_turns.proofs.KnownAfter.{makes_alike, open_then}
+use Rattle.sender_steps.specs.Stands.{KnowsMade, makes, makes_known, is_known_by}
 
 -- ---- only what was made makes known
 
@@ -38,7 +35,7 @@ known_own whole (Waits m ∷ past) g = known_own whole past g
 known_own whole (Took n es ds ∷ past) g = known_own whole past g
 known_own whole (Ended e ∷ past) g = known_own whole past g
 
-known_makes : (one other : Past) → makes one ≡ makes other → (whole : Past) (g : ℕ)
+pub known_makes : (one other : Past) → makes one ≡ makes other → (whole : Past) (g : ℕ)
     → list_any (made_known whole g) one ≡ list_any (made_known whole g) other
 known_makes one other e whole g =
     sym (known_own whole one g) ∙ ap (list_any (made_known whole g)) e ∙ known_own whole other g
@@ -117,31 +114,43 @@ same_together base later ch n =
     (ap (λ (ks : List ℕ). slice_get ks 0) (carriers_together ch n base later))
     (ap moved_by (entries_together base later))
 
--- ---- the laws
+-- ---- what is kept of them
 
-pub known_later : (past : Past) (known : List Bool) (opens : List OpenSent) → KnowsMade past known opens
-    → KnowsLater past known opens
-known_later past known opens knows later done grows g =
-    knows later (sym (makes_acts later) ∙ ap makes done ∙ makes_acts past) grows g
+pub opens_like : (one other : Past) → SameArrivals one other → (g : ℕ) (opens : List OpenSent)
+    → list_any (makes_known other g) opens ≡ list_any (makes_known one g) opens
+opens_like one other same g [] = refl
+opens_like one other same g (o ∷ opens) =
+    ap (λ (b : Bool). (is_among g o.guids && b) || list_any (makes_known other g) opens)
+    (have_alike one other same o.channel 1 o.last)
+    ∙ ap (λ (b : Bool). makes_known one g o || b) (opens_like one other same g opens)
 
+-- the bunches of a past make known what is kept of them, by what has arrived in one that goes on from it with others
+pub known_before : (past later : Past) (known : List Bool) (opens : List OpenSent) → Grows past later
+    → KnowsMade past known opens
+    → (g : ℕ) → list_any (made_known later g) past ≡ is_known_by later known opens g
+known_before past later known opens grows knows g =
+    let other : Past = together past later in
+    let same : SameArrivals later other = same_together past later in
+    sym (known_in later other same g past)
+    ∙ known_makes past other (sym (makes_together past later)) other g
+    ∙ knows other (makes_together past later) (λ c n e. same c n ∙ grows c n e) g
+    ∙ ap (λ (b : Bool). slice_index_or known g false || b) (opens_like later other same g opens)
+
+-- so it is known of a past in which more has arrived, and the bunches that were made more make no segment known
+pub known_next : (past next : Past) (known : List Bool) (opens : List OpenSent)
+    → ((whole : Past) (g : ℕ) → list_any (made_known whole g) next ≡ list_any (made_known whole g) past)
+    → Grows past next → KnowsMade past known opens → KnowsMade next known opens
+known_next past next known opens segments arrived knows later made grows g =
+    known_makes later next made later g
+    ∙ segments later g
+    ∙ known_before past later known opens (λ c n e. grows c n (arrived c n e)) knows g
+
+-- and of one in which the same bunches were made
 pub known_sent : (past next : Past) (known : List Bool) (opens : List OpenSent) → makes next ≡ makes past
-    → ((ch n : ℕ) → has_arrived past ch n ≡ true → has_arrived next ch n ≡ true)
-    → KnowsMade past known opens → KnowsMade next known opens
+    → Grows past next → KnowsMade past known opens → KnowsMade next known opens
 known_sent past next known opens same arrived knows later made grows g =
     knows later (made ∙ same) (λ ch n e. grows ch n (arrived ch n e)) g
 
-pub made_opened : (sent past : Past) (m : Message) (o : OpenSent) (known : List Bool) (opens : List OpenSent)
-    → are_sent sent ≡ true → span (sent ++ past) o.channel ≡ 0 → o.last ≡ made_count past o.channel + parts_of m
-    → ((g : ℕ) → exports_segment g m ≡ is_among g o.guids) → KnowsMade (sent ++ past) known opens
-    → KnowsMade (sent ++ after_making past o.channel m) known (with_open opens o)
-made_opened sent past m o known opens sends clear last exports knows later made grows g =
-    let base : Past = sent ++ past in
-    let other : Past = together base later in
-    let same : SameArrivals later other = same_together base later in
-    let goes_on : Grows base later = λ c n e. grows c n (arrivals_under sent past o.channel m c n ∙ e) in
-    known_makes later (sent ++ after_making past o.channel m) made later g
-    ∙ open_then sent past later m o known opens sends clear last exports goes_on g
-    (sym (known_in later other same g base)
-    ∙ known_makes base other (sym (makes_together base later)) other g
-    ∙ knows other (makes_together base later) (λ c n e. same c n ∙ goes_on c n e) g
-    ∙ ap (λ (b : Bool). slice_index_or known g false || b) (makes_alike later other same g opens))
+-- where the same was done, the same bunches were made
+pub makes_done : (past later : Past) → acts later ≡ acts past → makes later ≡ makes past
+makes_done past later done = sym (makes_acts later) ∙ ap makes done ∙ makes_acts past

@@ -1,22 +1,22 @@
 -- What is kept of an open.
-use Rattle.std.specs.Prelude.{◌≡◌, ◌≢◌, ◌≤◌, ◌<◌, ◌+◌, true, ℕ, List, [], ◌∷◌, ◌++◌, Bool, Some, false, not, filter, slice_index_or}
+use Rattle.std.specs.Prelude.{◌≡◌, ◌≢◌, ◌≤◌, ◌<◌, ◌+◌, true, ℕ, List, [], ◌∷◌, ◌++◌, Bool, Some, false, not, slice_index_or}
 use Rattle.protocol_model.specs.Limits.{channels_one}
 use Rattle.protocol_model.specs.Payload.{Message, parts_of}
 use Rattle.protocol_model.specs.Search.{is_among}
-use Rattle.connection_model.specs.Feed.{Past, Deed, Made, tick_count}
-use Rattle.connection_model.specs.Bunches.{has_arrived, made_count, span}
-use Rattle.connection_model.specs.Exports.{is_known, exports_segment}
+use Rattle.connection_model.specs.Feed.{Past, tick_count}
+use Rattle.connection_model.specs.Bunches.{made_count, span}
+use Rattle.connection_model.specs.Exports.{exports_segment}
 use Rattle.connection_model.specs.State.{index_of}
 use Rattle.channel_table.specs.Holders.{Bound, channel_bound, IsPaired}
 use Rattle.value_codec.specs.declared.pair.Pair.{Pair as PairValue}
 use Rattle.shadow_changes.specs.declared.change.Change.{Change as ChangeValue}
 use Rattle.shadow_changes.specs.Samples.{Samples, samples_of}
-use Rattle.sender_laws.specs.Acts.{acts, are_sent, ArrivesMade}
+use Rattle.sender_laws.specs.Acts.{are_sent, ArrivesMade}
 use Rattle.sender_laws.specs.Items.{has_update}
 use Rattle.sender_laws.specs.Values.{AreInTurn}
 use Rattle.sender_records.specs.Handles.{IsSampled}
 use Rattle.sender_steps.specs.Sender.{Sender, record_in}
-use Rattle.sender_steps.specs.Stands.{is_known_by, Keeps}
+use Rattle.sender_steps.specs.Stands.{Keeps}
 use Rattle.sender_steps.specs.declared.sent.OpenSent.{OpenSent}
 
 -- the segment wasn't taken for known
@@ -30,27 +30,6 @@ with_open opens o = with_if o.guids
     with_if : List ℕ → List OpenSent
     with_if [] = opens
     with_if (g ∷ guids) = opens ++ o ∷ []
-
--- what is known of every later past of the same deeds is told by the places and the opens
-abbrev pub KnowsLater : Past → List Bool → List OpenSent → Type 0
-KnowsLater past known opens = (later : Past) → acts later ≡ acts past
-    → ((ch n : ℕ) → has_arrived past ch n ≡ true → has_arrived later ch n ≡ true)
-    → (g : ℕ) → is_known later g ≡ is_known_by later known opens g
-
--- the deed made a bunch
-abbrev pub is_made : Deed → Bool
-is_made (Made channel number message i) = true
-is_made deed = false
-
--- the bunches that were made
-abbrev pub makes : Past → Past
-makes past = filter is_made past
-
--- so it is of every later past with the same bunches made, whatever was sent
-abbrev pub KnowsMade : Past → List Bool → List OpenSent → Type 0
-KnowsMade past known opens = (later : Past) → makes later ≡ makes past
-    → ((ch n : ℕ) → has_arrived past ch n ≡ true → has_arrived later ch n ≡ true)
-    → (g : ℕ) → is_known later g ≡ is_known_by later known opens g
 
 -- an open of the actor with these values may be made in this tick on the index, which is clear and
 -- held by none, below packets of the tick that have no update of it

@@ -34,7 +34,7 @@ pub use calls::offer_calls;
 pub use class_layout::{Classes, Pair, PairList};
 pub use opening::{
     SpelledOpen, free_channel, keep_open, known_whatever_is_sent, needed, needed_is_exported,
-    note_open, open_is_known_later, packets_are_unseen, spell_open,
+    note_open, packets_are_unseen, spell_open,
 };
 pub use sender_steps::{Seen, Sight};
 pub use turns::{Turn, find_turns, is_due};

@@ -29,8 +29,8 @@ ghost use Rattle.sender_records.specs.Life.{state_value};
 ghost use Rattle.connection_model.specs.State.{Opening, free_index, index_of};
 ghost use Rattle.sender_steps.specs.Sender.{Sender, record_in};
 ghost use Rattle.sender_steps.specs.Sights.{seen_value};
-ghost use Rattle.sender_steps.specs.Stands.{Keeps, KeepsBoth};
-ghost use Rattle.sender_turns.specs.Opening.{AreBound, KnowsLater, KnowsMade, makes, is_unknown, with_open, MayOpen, IsOpenTold};
+ghost use Rattle.sender_steps.specs.Stands.{Keeps, KeepsBoth, KnowsMade, makes};
+ghost use Rattle.sender_turns.specs.Opening.{AreBound, is_unknown, with_open, MayOpen, IsOpenTold};
 ghost use Rattle.sender_steps.specs.declared.sent.OpenSent.{OpenSent as OpenKept};
 
 use bit_io::{Bits, Memory};
@@ -155,21 +155,9 @@ pub fn needed_is_exported()
         ≡ is_among g guids }
 {}
 
-/// What is known later is told by the places and the opens, also once an open is made and noted.
-pub fn open_is_known_later()
-    ensures { (sent past : Past) (m : Message) (o : OpenKept) (known : List Bool)
-        (opens : List OpenKept) → are_sent sent ≡ true → span (sent ++ past) o.channel ≡ 0
-        → o.last ≡ made_count past o.channel + parts_of m
-        → ((g : ℕ) → exports_segment g m ≡ is_among g o.guids)
-        → KnowsLater (sent ++ past) known opens
-        → KnowsLater (sent ++ after_making past o.channel m) known (with_open opens o) }
-{}
-
-/// What is known of every later past with the same bunches made is known of those with the same
-/// packets, stays so whatever is sent, and goes on to a past with an open that is kept.
+/// What is known of every later past with the same bunches made stays so whatever is sent, and goes
+/// on to a past with an open that is made and noted.
 pub fn known_whatever_is_sent()
-    ensures later { (past : Past) (known : List Bool) (opens : List OpenKept)
-        → KnowsMade past known opens → KnowsLater past known opens }
     ensures sent { (past next : Past) (known : List Bool) (opens : List OpenKept)
         → makes next ≡ makes past
         → ((ch n : ℕ) → has_arrived past ch n ≡ true → has_arrived next ch n ≡ true)
@@ -183,15 +171,13 @@ pub fn known_whatever_is_sent()
 {}
 
 /// A packet that begins, and an item that goes into it and is no update, leave all that is kept as
-/// it stands, as long as it tells what is known later. A bunch that goes hasn't arrived.
+/// it stands. A bunch that goes hasn't arrived.
 pub fn packets_are_unseen()
     ensures begun { (s : Sender) (n t : ℕ) (past : Past) (samples : Samples)
-        → KnowsLater (Deed.Sent n t [] ∷ past) s.known s.opens → Keeps s past samples
-        → Keeps s (Deed.Sent n t [] ∷ past) samples }
+        → Keeps s past samples → Keeps s (Deed.Sent n t [] ∷ past) samples }
     ensures item { (s : Sender) (n t : ℕ) (items : List Item) (item : Item) (past : Past)
         (samples : Samples) → high_of past < n → CarriesAwaited (Deed.Sent n t items ∷ past) item
         → ((a : ℕ) → is_update_of a item ≡ false)
-        → KnowsLater (Deed.Sent n t (items ++ item ∷ []) ∷ past) s.known s.opens
         → Keeps s (Deed.Sent n t items ∷ past) samples
         → Keeps s (Deed.Sent n t (items ++ item ∷ []) ∷ past) samples }
 {}

@@ -1,4 +1,4 @@
-use Rattle.std.proofs.Common.{◌≡◌, ◌∙◌, ◌<◌, ◌||◌, List, ℕ, Bool, false, not, length, slice_index_or, ap, rules, sym, subst}
+use Rattle.std.proofs.Common.{◌≡◌, ◌∙◌, ◌<◌, ◌||◌, List, ℕ, false, not, length, slice_index_or, ap, rules, sym, subst}
 use Rattle.std.specs.List.{filter, list_any}
 use Rattle.std.proofs.lemmas.Fn.{filter_same}
 use Rattle.protocol_model.specs.Side.{AtServer}
@@ -14,10 +14,10 @@ returns c = record {
   made = λ past k made. subst (AreOpensMade past c.note_arrived.new.known.items) (sym (left past k))
       (left_made c.args.table.now past c.args.known.now.items c.note_arrived.new.known.items c.args.opens.now.items k
       made c.note_arrived.ensures.length (places past k));
-  known = λ past later k grown made g. subst (λ (os : List OpenSent). is_known_by later c.note_arrived.new.known.items
+  known = λ past later k grows made g. subst (λ (os : List OpenSent). is_known_by later c.note_arrived.new.known.items
       os g ≡ is_known_by later c.args.known.now.items c.args.opens.now.items g) (sym (left past k))
       (learnt c.args.table.now past c.args.known.now.items c.note_arrived.new.known.items c.args.opens.now.items k made
-      c.note_arrived.ensures.length (places past k) later grown g);
+      c.note_arrived.ensures.length (places past k) later grows g);
 }
   where
     places : (past : Past) → Keeps c.args.table.now AtServer past → (g : ℕ) → g < length c.args.known.now.items

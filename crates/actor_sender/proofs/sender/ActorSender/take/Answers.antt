@@ -35,7 +35,7 @@ returns c = λ layout past samples k table ascends.
           (subst (λ (xs : List Seen). Ascends 0 (actors_in xs)) (sym c.as_slice.ensures) ascends)
           (λ a. (k'.each a).service)));
       made = c.learn.ensures.made past table k'.opens;
-      learnt = λ later grown g. c.learn.ensures.known past later table grown k'.opens g;
+      learnt = λ later grows g. c.learn.ensures.known past later table grows k'.opens g;
     } in
     let all = takes_in s past samples (sight_value layout c.args.sight.now) c.show_all.new.records.entries
     c.learn.new.known.items c.learn.new.opens.items k' h in
