@@ -21,7 +21,7 @@ use Rattle.sender_records.proofs.Frames.{life_ticked, handles_like}
 use Rattle.sender_steps.specs.declared.sent.OpenSent.{OpenSent}
 use Rattle.sender_steps.specs.Sender.{Sender, record_in, packet_in}
 use Rattle.sender_steps.specs.Stands.{Keeps, AreServed, AreOpensMade, is_known_by, is_update_sent}
-use Rattle.sender_turns.proofs.KnownMade.{known_sent}
+use Rattle.sender_steps.proofs.KnownMade.{known_sent}
 
 -- what passes the test stays among the rest
 pub among_filtered : (p : ℕ → Bool) (ns : List ℕ) (n : ℕ) → is_among n ns ≡ true → p n ≡ true

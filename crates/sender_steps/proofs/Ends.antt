@@ -34,7 +34,7 @@ use Rattle.sender_steps.specs.declared.sent.OpenSent.{OpenSent}
 use Rattle.sender_steps.specs.Sender.{Sender, record_in, packet_in}
 use Rattle.sender_steps.specs.Stands.{KeepsBoth, KnowsMade, is_update_sent}
 use Rattle.sender_steps.proofs.Records.{everywhere}
-use Rattle.sender_turns.proofs.KnownMade.{known_next}
+use Rattle.sender_steps.proofs.KnownMade.{known_next}
 
 -- ---- what goes on
 

@@ -15,7 +15,7 @@ use Rattle.sender_records.specs.Actors.{KeepsActor, fresh_actor}
 use Rattle.sender_steps.specs.declared.sent.OpenSent.{OpenSent}
 use Rattle.sender_steps.specs.Sender.{Sender, record_at}
 use Rattle.sender_steps.specs.Stands.{Keeps, makes_known}
-use Rattle.sender_turns.proofs.KnownMade.{known_makes}
+use Rattle.sender_steps.proofs.KnownMade.{known_makes}
 
 fresh_keeps : (samples : List Sample) (a : ℕ) → KeepsActor [] samples a (fresh_actor a)
 fresh_keeps samples a = record {

@@ -2,6 +2,7 @@ pub mod Records
 pub mod Tables
 pub mod Pairs
 pub mod Settling
+pub mod KnownMade
 pub mod News
 pub mod AfterMove
 pub mod Fresh

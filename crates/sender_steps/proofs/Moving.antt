@@ -32,7 +32,7 @@ use Rattle.sender_steps.specs.declared.sent.UpdateSent.{UpdateSent}
 use Rattle.sender_steps.specs.Sender.{Sender, record_in, packet_in}
 use Rattle.sender_steps.specs.Hearing.{Hearing, IsGrown}
 use Rattle.sender_steps.specs.Stands.{Keeps, StandsBoth, is_update_sent}
-use Rattle.sender_turns.proofs.KnownMade.{known_sent, makes_done}
+use Rattle.sender_steps.proofs.KnownMade.{known_sent, makes_done}
 use Rattle.sender_steps.proofs.News.{move_is, waiting_same}
 use Rattle.sender_steps.proofs.AfterMove.{Told, told_keeps, later_apart}
 

@@ -20,7 +20,7 @@ use Rattle.sender_records.specs.Handles.{handle_in}
 use Rattle.sender_records.proofs.Frames.{actor_alike, actor_made}
 use Rattle.sender_steps.specs.Sender.{Sender, record_at}
 use Rattle.sender_steps.specs.Stands.{Keeps}
-use Rattle.sender_turns.proofs.KnownMade.{known_next, known_sent, makes_done}
+use Rattle.sender_steps.proofs.KnownMade.{known_next, known_sent, makes_done}
 
 pub alike_keeps : (s : Sender) (past later : Past) (samples : Samples) → IsAlike past later → Keeps s past samples
     → Keeps s later samples

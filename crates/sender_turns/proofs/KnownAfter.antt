@@ -19,7 +19,7 @@ use Rattle.sender_laws.proofs.Makes.{arrivals_under, count_sent}
 use Rattle.sender_steps.specs.declared.sent.OpenSent.{OpenSent}
 use Rattle.sender_turns.specs.Opening.{with_open}
 use Rattle.sender_steps.specs.Stands.{KnowsMade, makes_known, is_known_by}
-use Rattle.sender_turns.proofs.KnownMade.{known_before, known_makes}
+use Rattle.sender_steps.proofs.KnownMade.{known_before, known_makes}
 
 -- its first part makes its segments known, once all its parts have arrived
 open_known : (later past : Past) (ch : ℕ) (m : Message) (g : ℕ)

@@ -12,4 +12,3 @@ pub mod Unsent
 pub mod Entering
 pub mod FreeIndex
 pub mod Packed
-pub mod KnownMade

@@ -10,7 +10,7 @@ use Rattle.sender_laws.proofs.Sends.{arrivals_begun, arrivals_sent}
 use Rattle.sender_records.proofs.Frames.{actor_begun, actor_sent}
 use Rattle.sender_steps.specs.Sender.{Sender, record_in}
 use Rattle.sender_steps.specs.Stands.{Keeps}
-use Rattle.sender_turns.proofs.KnownMade.{known_sent}
+use Rattle.sender_steps.proofs.KnownMade.{known_sent}
 
 pub keeps_begun : (s : Sender) (n t : ℕ) (past : Past) (samples : Samples)
     → Keeps s past samples → Keeps s (Sent n t [] ∷ past) samples
