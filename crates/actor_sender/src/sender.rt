@@ -1,10 +1,11 @@
 // The sender of one connection.
-ghost use Rattle.std.specs.Prelude.{◌≡◌, ◌<◌, ◌+◌, ◌^◌, [], ℕ, List, length, None, unwrap_or, OnOk, OnErr, IsErr};
+ghost use Rattle.std.specs.Prelude.{◌≡◌, ◌<◌, ◌≤◌, ◌+◌, ◌^◌, [], ℕ, List, length, true, false, None, unwrap_or, OnOk, OnErr, IsErr};
+ghost use Rattle.std.specs.List.{list_any};
 ghost use Rattle.std.specs.Option.{option_copied};
 ghost use Rattle.protocol_model.specs.Side.{AtServer};
 ghost use Rattle.connection_model.specs.Feed.{Past, sight_of};
 ghost use Rattle.connection_model.specs.Pack.{after_closes};
-ghost use Rattle.connection_model.specs.State.{state_of, was_opened as was_opened_in};
+ghost use Rattle.connection_model.specs.State.{state_of, is_open, was_opened as was_opened_in};
 ghost use Rattle.connection_model.specs.Settled.{is_settled_as};
 ghost use Rattle.connection_model.specs.CallAnswers.{is_seen_owned};
 ghost use Rattle.connection_laws.specs.Run.{Ascends};
@@ -15,10 +16,10 @@ ghost use Rattle.class_layout.specs.Tables.{Layout};
 ghost use Rattle.shadow_changes.specs.Samples.{Samples};
 ghost use Rattle.sender_records.specs.Actors.{fresh_actor};
 ghost use Rattle.sender_records.specs.Life.{state_value};
-ghost use Rattle.sender_steps.specs.Sender.{record_at};
+ghost use Rattle.sender_steps.specs.Sender.{record_at, state_kept};
 ghost use Rattle.sender_steps.specs.Sights.{seen_value, sight_value, actors_in};
 ghost use Rattle.sender_steps.specs.States.{is_quiet_as};
-ghost use Rattle.sender_steps.specs.Stands.{Keeps, KeepsBoth, StandsBoth, IsSpent};
+ghost use Rattle.sender_steps.specs.Stands.{Keeps, KeepsBoth, StandsBoth, IsSpent, makes_known};
 
 use bit_io::Memory;
 use channel_table::ChannelTable;
@@ -33,6 +34,8 @@ use sender_steps::{
 use std::alloc::Global;
 use std::collections::HashMap;
 use std::marker::Model;
+
+mod ticking;
 
 /// The actors of one connection, as they were sent.
 #[derive(Drop)]
@@ -86,11 +89,19 @@ impl ActorSender {
     /// A tick begins: takes in what the client knows by now and whom the sight shows, and forgets
     /// what is under way no more. The actors of the sight ascend. After `Memory` the sender is
     /// spent.
-    pub fn take_in(&mut self, sight: &Sight, table: &ChannelTable) -> Result<(), Memory>
+    pub(crate) fn take_in(&mut self, sight: &Sight, table: &ChannelTable) -> Result<(), Memory>
         ensures keeps { OnOk result ((layout : Layout) (past : Past) (samples : Samples)
             → Keeps self.old past samples → KeepsTable table.now AtServer past
             → Ascends 0 (actors_in sight.now)
             → Keeps self.new (ticked past (sight_value layout sight.now)) samples) }
+        ensures rest { OnOk result ((past : Past) (samples : Samples)
+            → Keeps self.old past samples → KeepsTable table.now AtServer past → (g : ℕ)
+            → list_any (makes_known past g) self.new.opens ≡ false) }
+        ensures handles { OnOk result ((a : ℕ) → (record_at self.new a).handles
+            ≡ (record_at self.old a).handles) }
+        ensures life { OnOk result ((a : ℕ) → (record_at self.new a).life
+            ≡ (record_at self.old a).life) }
+        ensures live { OnOk result (length self.new.live ≤ length self.old.live) }
         ensures spent { OnErr result (IsSpent self.new) }
         ensures after { IsSpent self.old → IsErr result }
     {
@@ -108,10 +119,18 @@ impl ActorSender {
 
     /// Takes them in, as long as memory lasts.
     fn take(&mut self, sight: &Sight, table: &ChannelTable) -> Result<(), Memory>
-        ensures { OnOk result ((layout : Layout) (past : Past) (samples : Samples)
+        ensures keeps { OnOk result ((layout : Layout) (past : Past) (samples : Samples)
             → Keeps self.old past samples → KeepsTable table.now AtServer past
             → Ascends 0 (actors_in sight.now)
             → Keeps self.new (ticked past (sight_value layout sight.now)) samples) }
+        ensures rest { OnOk result ((past : Past) (samples : Samples)
+            → Keeps self.old past samples → KeepsTable table.now AtServer past → (g : ℕ)
+            → list_any (makes_known past g) self.new.opens ≡ false) }
+        ensures handles { OnOk result ((a : ℕ) → (record_at self.new a).handles
+            ≡ (record_at self.old a).handles) }
+        ensures life { OnOk result ((a : ℕ) → (record_at self.new a).life
+            ≡ (record_at self.old a).life) }
+        ensures live { OnOk result (length self.new.live ≤ length self.old.live) }
     {
         let Some(tick) = self.ticks.checked_add(1) else {
             return Err(Memory);
@@ -125,7 +144,7 @@ impl ActorSender {
 
     /// Makes the closes and Gones that the tick calls for which was taken in with this sight, each
     /// where its channel has room. After `Memory` the sender is spent.
-    pub fn make_closes(
+    pub(crate) fn make_closes(
         &mut self,
         sight: &Sight,
         table: &mut ChannelTable,
@@ -141,6 +160,17 @@ impl ActorSender {
             → sight_of past ≡ sight_value classes.now sight.now
             → Ascends 0 (actors_in sight.now)
             → KeepsBoth self.new table.new (after_closes past) samples) }
+        ensures rest { OnOk result (self.new ≡ record self.old {
+          records = self.new.records;
+          pending = self.new.pending;
+        }) }
+        ensures handles { OnOk result ((a : ℕ) → (record_at self.new a).handles
+            ≡ (record_at self.old a).handles) }
+        ensures was_open { OnOk result ((a : ℕ) → is_open (state_kept self.new a) ≡ true
+            → is_open (state_kept self.old a) ≡ true) }
+        ensures waiting { OnOk result (table.new.waiting ≡ table.old.waiting) }
+        ensures count { OnOk result (table.new.made.count
+            ≤ table.old.made.count + length self.old.live) }
         ensures spent { OnErr result (IsSpent self.new) }
     {
         let (alloc, tick) = (self.alloc, self.ticks);
@@ -159,9 +189,10 @@ impl ActorSender {
     pub fn moved(&mut self, m: FateMove, table: &mut ChannelTable)
         requires from { table.old.high ≡ m.from }
         requires above { m.from < m.to }
-        ensures { (past after : Past) (samples : Samples)
+        ensures stands { (past after : Past) (samples : Samples)
             → StandsBoth self.old table.old past samples → IsMove m.from m.to past after
             → StandsBoth self.new table.new after samples }
+        ensures count { table.new.made.count ≡ table.old.made.count }
     {
         table.moved(m);
         tell_updates(&mut self.records, self.updates.as_slice(), m.from, m.to);

@@ -1,19 +1,16 @@
--- The numbers that an entry moves are near, where it names none that wasn't sent.
-use Rattle.std.proofs.Common.{◌≡◌, ℕ, ◌+◌, ◌<◌, ◌≤◌, List, [], ◌∷◌, ◌++◌, reverse, Bool, true, false, None, refl, sym, subst, inl, inr, arith}
-use Rattle.std.specs.Prelude.{nat_lt, ℤ, pos, negsuc, ◌-ℤ◌, int_lt, slice_get}
-use Rattle.std.specs.List.{filter_map, cons_option}
-use Rattle.std.proofs.lemmas.Option.{none-some}
-use Rattle.std.specs.Bool.{then_some}
+-- The numbers that an entry moves are near.
+use Rattle.std.proofs.Common.{◌≡◌, ℕ, ◌+◌, ◌-◌, ◌%◌, ◌<◌, ◌≤◌, List, [], ◌∷◌, ◌++◌, reverse, Bool, true, false, sym, subst, inl, inr, arith}
+use Rattle.std.specs.Prelude.{nat_lt, ℤ, pos, negsuc, ◌+ℤ◌, ◌-ℤ◌, int_lt}
+use Rattle.std.specs.Int.{int_rem_euclid}
+use Rattle.std.specs.List.{filter_map}
+use Rattle.std.proofs.lemmas.Nat.{mod_below}
 use Rattle.std.proofs.lemmas.Bool.{cases_Bool, ltb-true}
 use Rattle.std.proofs.lemmas.Int.{ints}
 use Rattle.std.proofs.lemmas.List.{reverse-append}
-use Rattle.protocol_model.specs.Search.{newest_of}
 use Rattle.protocol_model.specs.Bits.{near}
 use Rattle.protocol_model.specs.Limits.{packet_modulus}
-use Rattle.protocol_model.specs.declared.Cause.TheVariants.{BadAck}
 use Rattle.connection_model.specs.Feed.{Past, Entry, Acked, Told, Heard}
-use Rattle.connection_model.specs.Fates.{high_of, last_sent, named_numbers, number_above, history_of}
-use Rattle.connection_model.specs.Verdict.{ack_cause}
+use Rattle.connection_model.specs.Fates.{high_of, named_numbers, number_above, history_of}
 use Rattle.hearing_laws.specs.Chains.{AreNear, moved_in}
 
 -- numbers that ascend, above the one number and below the other
@@ -57,30 +54,23 @@ named high (pos n) (true ∷ bits) top h l = elim (cases_Bool (nat_lt high n)) [
       (λ e. omega (h, e, arith, ints))) l)
 ]
 
--- the first is found where the test passes
-unfound : {A : Type 0} (test : Bool) (x : A) (rest : List A) → slice_get (cons_option (then_some test x) rest) 0 ≡ None
-    → test ≡ false
-unfound false x rest h = refl
-unfound true x rest h = absurd (none-some x (sym h))
+-- a number that travels is told within half of all numbers above the reference
+below_half : (z : ℤ) (high : ℕ) → int_lt (pos high +ℤ int_rem_euclid z (pos 16384) -ℤ pos 8192) (pos (high + 8192))
+    ≡ true
+below_half (pos a) high =
+    is_less (pos high +ℤ pos (a % 16384) -ℤ pos 8192) (pos (high + 8192))
+    (λ e. let r = mod_below a 16384 (omega arith) in omega (e, r, arith, ints))
+below_half (negsuc a) high =
+    is_less (pos high +ℤ pos (16384 - 1 - a % 16384) -ℤ pos 8192) (pos (high + 8192)) (λ e. omega (e, arith, ints))
 
--- where none of the named is above the last one sent, and that one is below the top
-named_sent : (high last : ℕ) (a : ℤ) (bits : List Bool) (top : ℕ)
-    → newest_of (λ (z : ℤ). then_some (int_lt (pos last) z) (BadAck z last)) (named_numbers a bits) ≡ None
-    → last < top → high < top
-    → Between high (reverse (filter_map (number_above high) (named_numbers a bits))) top
-named_sent high last a [] top h t l = l
-named_sent high last a (false ∷ bits) top h t l = named_sent high last (a -ℤ pos 1) bits top h t l
-named_sent high last a (true ∷ bits) top h t l =
-    let e = unfound (int_lt (pos last) a) (BadAck a last) (filter_map
-    (λ (z : ℤ). then_some (int_lt (pos last) z) (BadAck z last)) (named_numbers (a -ℤ pos 1) bits)) h in
-    named high a (true ∷ bits) top (is_less a (pos top) (λ f. omega (e, f, t, arith, ints))) l
+near_below : (n high : ℕ) → int_lt (near n (pos high) packet_modulus) (pos (high + 8192)) ≡ true
+near_below n high = below_half (pos n -ℤ pos high +ℤ pos 8192) high
 
-pub moved_near : (past : Past) (entry : Entry) → last_sent past < high_of past + 8192 → ack_cause past entry ≡ None
-    → AreNear (high_of past) (moved_in past entry)
-moved_near past (Heard b) few good = tt
-moved_near past (Acked k) few good = near_between (high_of past) (high_of past) _ (omega arith)
-    (named_sent (high_of past) (last_sent past) (near k (pos (high_of past)) packet_modulus) (true ∷ [])
-    (high_of past + 8192) good few (omega arith))
-moved_near past (Told head) few good = near_between (high_of past) (high_of past) _ (omega arith)
-    (named_sent (high_of past) (last_sent past) (near head.top (pos (high_of past)) packet_modulus) (history_of head)
-    (high_of past + 8192) good few (omega arith))
+pub moved_near : (past : Past) (entry : Entry) → AreNear (high_of past) (moved_in past entry)
+moved_near past (Heard b) = tt
+moved_near past (Acked k) = near_between (high_of past) (high_of past) _ (omega arith)
+    (named (high_of past) (near k (pos (high_of past)) packet_modulus) (true ∷ [])
+    (high_of past + 8192) (near_below k (high_of past)) (omega arith))
+moved_near past (Told head) = near_between (high_of past) (high_of past) _ (omega arith)
+    (named (high_of past) (near head.top (pos (high_of past)) packet_modulus) (history_of head)
+    (high_of past + 8192) (near_below head.top (high_of past)) (omega arith))

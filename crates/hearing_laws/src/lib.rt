@@ -7,23 +7,29 @@
 //
 //     past --Moves 3 4--> --Moves 4 7--> .. --Moves 7 9--> past that was told the entry
 //
+// And of a packet as a whole (`packets`): its news one after another, moves and bunches, lead from the
+// past before it to the past after it, up to the first rule that is broken.
+//
 // It stands on `connection_model`, whose definitions it speaks of, on the moves of `channel_laws` and
 // the news of `link_end`, and on `connection_laws`, `protocol_laws` and `sender_laws` for lemmas. Each
 // function does nothing, and its contract is the law. It knows no code.
 //
-// A caller's proof, of an entry that named no packet above the last one sent:
+// A caller's proof, of an entry:
 //
-//     entry_leads n es hs before entry heard (moved_near (Took n es hs ∷ before) entry few good)
+//     entry_leads n es hs before entry heard (moved_near (Took n es hs ∷ before) entry)
 #![tactic(auto)]
 
-ghost use Rattle.std.specs.Prelude.{◌≡◌, ◌+◌, ◌<◌, ℕ, List, ◌∷◌, ◌++◌, reverse, false, None};
+ghost use Rattle.std.specs.Prelude.{◌≡◌, ℕ, List, ◌∷◌, ◌++◌, reverse, false};
 ghost use Rattle.connection_model.specs.Feed.{End, Past, Took, Entry, Delivered};
-ghost use Rattle.connection_model.specs.Fates.{high_of, last_sent, moved_of};
-ghost use Rattle.connection_model.specs.Verdict.{ack_cause, with_told, after_got};
+ghost use Rattle.connection_model.specs.Fates.{high_of, moved_of};
+ghost use Rattle.connection_model.specs.Verdict.{with_told, after_got};
 ghost use Rattle.channel_laws.specs.Moves.{is_heard, but_fates};
 ghost use Rattle.link_end.specs.News.{moves_from, news_in};
 ghost use Rattle.sender_laws.specs.Acts.{acts};
 ghost use Rattle.hearing_laws.specs.Chains.{Chain, AreNear, moved_in};
+
+pub mod packets;
+pub mod plain;
 
 /// Where these numbers move, each within half of the numbers above the one before, single moves lead
 /// from the past before to each past in which they moved and nothing else was done.
@@ -46,11 +52,10 @@ pub fn entry_leads_on()
         (with_told entry (Took n es hs ∷ before)) }
 {}
 
-/// An entry that names no packet above the last one sent moves numbers that are near, where fewer than
-/// 8,192 packets are open.
+/// The numbers that an entry moves are near: a number that travels is told from half of all others
+/// above the greatest moved.
 pub fn moved_numbers_are_near()
-    ensures { (past : Past) (entry : Entry) → last_sent past < high_of past + 8192
-        → ack_cause past entry ≡ None → AreNear (high_of past) (moved_in past entry) }
+    ensures { (past : Past) (entry : Entry) → AreNear (high_of past) (moved_in past entry) }
 {}
 
 /// A datagram makes nothing and sends nothing: ticks, bunches made and packets sent stay.

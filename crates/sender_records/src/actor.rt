@@ -1,5 +1,5 @@
 // What is kept of one actor.
-ghost use Rattle.std.specs.Prelude.{◌≡◌, ◌≢◌, ◌≤◌, ◌<◌, ◌+◌, ◌∷◌, ◌++◌, ◌==◌, [], ℕ, List, map, length, true, false, Some, OnOk, OnErr, IsOk};
+ghost use Rattle.std.specs.Prelude.{◌≡◌, ◌≢◌, ◌⊎◌, ◌≤◌, ◌<◌, ◌+◌, ◌∷◌, ◌++◌, ◌==◌, [], ℕ, List, map, length, true, false, Some, OnOk, OnErr, IsOk};
 ghost use Rattle.std.specs.List.{list_any};
 ghost use Rattle.protocol_model.specs.Value.{Class as ClassSpec, Segment as SegmentSpec};
 ghost use Rattle.protocol_model.specs.Packet.{Bunch};
@@ -16,7 +16,7 @@ ghost use Rattle.sender_laws.specs.Items.{has_update};
 ghost use Rattle.sender_laws.specs.States.{flush_seen};
 ghost use Rattle.sender_laws.specs.Values.{AreInTurn, IsCurrent};
 ghost use Rattle.sender_records.specs.Service.{shows_owned};
-ghost use Rattle.sender_records.specs.Handles.{pairs_of, AreApart, AllBelow, Agrees, IsSampled};
+ghost use Rattle.sender_records.specs.Handles.{handle_in, pairs_of, AreApart, AllBelow, Agrees, IsSampled};
 ghost use Rattle.sender_records.specs.Actors.{KeepsActor, fresh_actor};
 
 use crate::life::Life;
@@ -128,6 +128,10 @@ impl ActorRecord {
             → KeepsActor (sent_more packet tick items
             (Item.Loose (Updates actor class (pairs_of values.now)) bunch) past)
             samples actor self.new }
+        ensures packets { AreApart (pairs_of values.now) → (h : ℕ)
+            → ((handle_in self.new.handles.handles h).packet ≡ packet)
+            ⊎ ((handle_in self.new.handles.handles h).packet
+            ≡ (handle_in self.old.handles.handles h).packet) }
         ensures last { self.new.handles.last ≡ self.old.handles.last }
     {
         self.handles.carries(packet, values);

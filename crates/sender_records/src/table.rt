@@ -1,5 +1,5 @@
 // The handles of one actor that is open.
-ghost use Rattle.std.specs.Prelude.{◌≡◌, ◌≢◌, ◌≤◌, ◌<◌, ◌∷◌, ◌++◌, ◌&&◌, ◌==◌, [], ℕ, ℤ, List, map, length, true, false, Some, None, OnOk, OnErr, IsOk};
+ghost use Rattle.std.specs.Prelude.{◌≡◌, ◌≢◌, ◌⊎◌, ◌≤◌, ◌<◌, ◌∷◌, ◌++◌, ◌&&◌, ◌==◌, [], ℕ, ℤ, List, map, length, true, false, Some, None, OnOk, OnErr, IsOk};
 ghost use Rattle.std.specs.List.{list_any};
 ghost use Rattle.protocol_model.specs.Value.{Class as ClassSpec, Pair as PairSpec, Segment as SegmentSpec, value_among};
 ghost use Rattle.protocol_model.specs.Packet.{Bunch};
@@ -167,6 +167,9 @@ impl HandleTable {
             → KeepsHandles (sent_more packet t items
             (Item.Loose (Updates actor class (pairs_of values.now)) bunch) past)
             samples actor self.new }
+        ensures packets { AreApart (pairs_of values.now) → (h : ℕ)
+            → ((handle_in self.new.handles h).packet ≡ packet)
+            ⊎ ((handle_in self.new.handles h).packet ≡ (handle_in self.old.handles h).packet) }
         ensures last { self.new.last ≡ self.old.last }
     {
         carry_all(&mut self.handles, packet, values);

@@ -92,6 +92,7 @@ pub record Hears (pending : List ℕ) (count : ℕ) (start now : List (ℕ × Ac
   pub same_open : (a : ℕ) → is_open (state_value (record_in now a).life.state) ≡ is_open
       (state_value (record_in start a).life.state)
   pub waiting : t.waiting ≡ before.waiting
+  pub made : t.made ≡ before.made
   pub hears : (past later : Past) → IsGrown past later → Hearing past later pending start before
       → Hearing past later (left_at count pending) now t
 
@@ -162,6 +163,7 @@ hears_next pending count x start now new before t after at one h = record {
   same_open = λ a. everywhere Bool (λ (r : ActorRecord). is_open (state_value r.life.state)) x now new one.others
       one.same_open a ∙ h.same_open a;
   waiting = ap (λ (u : Channels). u.waiting) one.table.rest ∙ h.waiting;
+  made = ap (λ (u : Channels). u.made) one.table.rest ∙ h.made;
   hears = λ past later g m. hearing_next past later x (left_at (count + 1) pending) now new t after g one
       (subst (λ (xs : List ℕ). Hearing past later xs now t) (at_place pending count x at) (h.hears past later g m));
 }

@@ -1,7 +1,7 @@
 -- Opens that have arrived whole: what they made known before is known by the places that they leave.
 use Rattle.std.proofs.Common.{◌≡◌, ◌∙◌, inl, inr, ℕ, zero, suc, ◌+◌, ◌-◌, ◌<◌, ◌≤◌, nat_lt, List, [], ◌∷◌, length, Bool, true, false, not, cond, ◌&&◌, ◌||◌, ap, sym, refl, subst, arith, Option, Some, None, is_some, slice_index_or}
 use Rattle.std.specs.List.{list_any, filter, slice_get}
-use Rattle.std.proofs.lemmas.Bool.{cases_lt, false≢true}
+use Rattle.std.proofs.lemmas.Bool.{cases_Bool, cases_lt, false≢true}
 use Rattle.std.proofs.lemmas.Bool.Decides.{nat_tests}
 use Rattle.std.proofs.lemmas.List.{get_or_past}
 use Rattle.std.proofs.lemmas.Option.{slice_get_cases}
@@ -9,10 +9,11 @@ use Rattle.protocol_model.specs.Packet.{Bunch}
 use Rattle.protocol_model.specs.Side.{AtServer}
 use Rattle.protocol_model.specs.Search.{newest_of, is_among}
 use Rattle.connection_model.specs.Feed.{Past}
-use Rattle.connection_model.specs.Bunches.{have_arrived, made_count, least_unarrived}
+use Rattle.connection_model.specs.Bunches.{has_arrived, have_arrived, made_count, least_unarrived}
 use Rattle.connection_model.specs.Items.{made_as}
 use Rattle.connection_laws.proofs.ActorMarks.{Grows}
-use Rattle.sender_laws.proofs.Arriving.{have_each, have_stays}
+use Rattle.connection_laws.proofs.Searches.{least_end}
+use Rattle.sender_laws.proofs.Arriving.{each_has, have_each, have_stays}
 use Rattle.outgoing_channels.proofs.Bunches.{early_arrived, least_most}
 use Rattle.outgoing_channels.specs.Keeps.{KeepsOut}
 use Rattle.outgoing_channels.specs.Made.{out_at}
@@ -165,3 +166,45 @@ module _ (t : Channels) (past : Past) (known left : List Bool) (opens : List Ope
         ∙ none ∙ sym (unplaced later g le opens made)
         ∙ ap (λ (b : Bool). b || list_any (makes_known later g) opens) (sym (get_or_past known g false le)))
   ]
+
+-- ---- those that are left
+
+-- an open that was made and has arrived whole is kept no more
+arrived_gone : (past : Past) (o : OpenSent) → o.last ≤ made_count past o.channel
+    → have_arrived past o.channel 1 o.last ≡ true
+    → is_open_gone past o ≡ true
+arrived_gone past o most all = elim (cases_lt o.last (least_unarrived past o.channel)) [
+  | inl lt ↦ ap (λ (b : Bool). not (is_some (cond b None (newest_of (made_as o.channel o.last) past))))
+      (within o.last (least_unarrived past o.channel) lt)
+  | inr le ↦ absurd (elim (least_end (λ n. not (has_arrived past o.channel n)) (made_count past o.channel) 1) [
+    | inl q ↦ false≢true (ap not (sym (each_has past o.channel 1 o.last all (least_unarrived past o.channel)
+        (least_most past o.channel).0 (omega (arith, le)))) ∙ q)
+    | inr q ↦ omega (arith, q, le, most)
+  ])
+]
+
+-- none of them makes a segment known
+pub none_left : (past : Past) (g : ℕ) (known : List Bool) (opens : List OpenSent) → AreOpensMade past known opens
+    → list_any (makes_known past g) (filter (λ (o : OpenSent). not (is_open_gone past o)) opens) ≡ false
+none_left past g known [] made = refl
+none_left past g known (o ∷ opens) made =
+    by (is_open_gone past o) refl (none_left past g known opens (λ i x at. made (suc i) x at))
+  where
+    rest : List OpenSent
+    rest = filter (λ (o : OpenSent). not (is_open_gone past o)) opens
+
+    not_yet : is_open_gone past o ≡ false → have_arrived past o.channel 1 o.last ≡ false
+    not_yet e = elim (cases_Bool (have_arrived past o.channel 1 o.last)) [
+      | inl q ↦ absurd (false≢true (sym e ∙ arrived_gone past o (made zero o refl).made q))
+      | inr q ↦ q
+    ]
+
+    both : (x y z : Bool) → y ≡ false → z ≡ false → ((x && y) || z) ≡ false
+    both true y z e h = rw (e, h) refl
+    both false y z e h = h
+
+    by : (b : Bool) → is_open_gone past o ≡ b → list_any (makes_known past g) rest ≡ false
+        → list_any (makes_known past g) (cond (not (is_open_gone past o)) (o ∷ rest) rest) ≡ false
+    by true e h = rw e h
+    by false e h = rw e (both (is_among g o.guids) (have_arrived past o.channel 1 o.last)
+        (list_any (makes_known past g) rest) (not_yet e) h)

@@ -9,18 +9,19 @@ use Rattle.protocol_model.specs.Sight.{Seen}
 use Rattle.connection_model.specs.Feed.{Past, tick_count, sight_of, seen_in}
 use Rattle.connection_model.specs.Bunches.{after_making, room}
 use Rattle.connection_model.specs.Pack.{after_close, after_closes, made_if_room}
-use Rattle.connection_model.specs.State.{state_of, index_of, is_closed}
+use Rattle.connection_model.specs.State.{state_of, index_of, is_closed, is_open}
 use Rattle.connection_laws.specs.Run.{Ascends}
 use Rattle.class_layout.specs.Tables.{Layout}
 use Rattle.channel_table.specs.Channels.{Channels}
 use Rattle.shadow_changes.specs.Samples.{Samples}
 use Rattle.sender_laws.proofs.Makes.{sight_under}
 use Rattle.sender_records.specs.declared.actor.ActorRecord.{ActorRecord}
+use Rattle.sender_records.specs.Life.{state_value}
 use Rattle.sender_steps.specs.declared.closing.Close.{Close}
 use Rattle.sender_steps.specs.declared.closing.Close.TheVariants as close
 use Rattle.sender_steps.specs.declared.sight.Seen.{Seen as SeenValue}
 use Rattle.sender_steps.specs.Closing.{close_called, after_called, IsTicked}
-use Rattle.sender_steps.specs.Sender.{Sender}
+use Rattle.sender_steps.specs.Sender.{Sender, record_in}
 use Rattle.sender_steps.specs.Sights.{sight_value}
 use Rattle.sender_steps.specs.Stands.{KeepsBoth}
 use Rattle.sender_steps.proofs.Folds.{called_is, closes_live}
@@ -83,6 +84,10 @@ pub record ClosedSoFar (start : List (ℕ × ActorRecord)) (first : List ℕ) (t
       → KeepsBoth (record s { records = records; pending = pending }) t
       (fold after_close past (take count live)) samples
   pub made : t.made.count ≤ t0.made.count + count
+  pub handles : (a : ℕ) → (record_in records a).handles ≡ (record_in start a).handles
+  pub was_open : (a : ℕ) → is_open (state_value (record_in records a).life.state) ≡ true
+      → is_open (state_value (record_in start a).life.state) ≡ true
+  pub waiting : t.waiting ≡ t0.waiting
   pub before : (i : ℕ) (e : SeenValue) → slice_get sight i ≡ Some e → i < at → (j a : ℕ) → count ≤ j
       → slice_get live j ≡ Some a → e.actor < a
 
@@ -106,15 +111,22 @@ module _ (start : List (ℕ × ActorRecord)) (first : List ℕ) (t0 : Channels) 
       → ((p : Past) → fold after_close p (take (count + 1) live) ≡ after_close (fold after_close p (take count live)) a)
       → ((i : ℕ) (e : SeenValue) → slice_get sight i ≡ Some e → i < place → e.actor < a)
       → t'.made.count ≤ t.made.count + 1
+      → ((b : ℕ) → (record_in records' b).handles ≡ (record_in records b).handles)
+      → ((b : ℕ) → is_open (state_value (record_in records' b).life.state) ≡ true
+      → is_open (state_value (record_in records b).life.state) ≡ true)
+      → t'.waiting ≡ t.waiting
       → ((s : Sender) (past : Past) (samples : Samples) → IsTicked s t0 past samples start first live layout sight tick
       → KeepsBoth (record s { records = records'; pending = pending' }) t'
       (after_close (fold after_close past (take count live)) a) samples)
       → ClosedSoFar start first t0 live layout sight tick (count + 1) place records' pending' t'
-  closes_more a place records' pending' t' is ascends folded before made stands = record {
+  closes_more a place records' pending' t' is ascends folded before made handles was_open waiting stands = record {
     stands = λ s past samples b. subst (λ (p : Past). KeepsBoth
         (record s { records = records'; pending = pending' }) t' p samples) (sym (folded past))
         (stands s past samples b);
     made = omega (arith, made, h.made);
+    handles = λ b. handles b ∙ h.handles b;
+    was_open = λ b o. h.was_open b (was_open b o);
+    waiting = waiting ∙ h.waiting;
     before = λ i e there lt j b le q. omega (
       arith,
       before i e there lt,

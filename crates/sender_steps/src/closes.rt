@@ -192,6 +192,12 @@ fn close_one(
           records = records.new.entries;
           pending = pending.new.items;
         }) table.new (after_close past actor) samples) }
+    ensures handles { OnOk result ((a : ℕ) → (record_in records.new.entries a).handles
+        ≡ (record_in records.old.entries a).handles) }
+    ensures was_open { OnOk result ((a : ℕ)
+        → is_open (state_value (record_in records.new.entries a).life.state) ≡ true
+        → is_open (state_value (record_in records.old.entries a).life.state) ≡ true) }
+    ensures waiting { OnOk result (table.new.waiting ≡ table.old.waiting) }
     ensures count { OnOk result (table.new.made.count ≤ table.old.made.count + 1) }
 {
     if end_in(alloc, records, actor, seen, tick, table, classes)? {
@@ -216,13 +222,21 @@ pub fn close_all(
         × IsTicked s table.old past samples records.old.entries pending.old.items live.now
         classes.now sight.now tick }
     requires few { table.old.made.count + length live.now < 2 ^ 60 }
-    ensures { OnOk result ((s : Sender) (past : Past) (samples : Samples)
+    ensures keeps { OnOk result ((s : Sender) (past : Past) (samples : Samples)
         → IsTicked s table.old past samples records.old.entries pending.old.items live.now
         classes.now sight.now tick
         → KeepsBoth (record s {
           records = records.new.entries;
           pending = pending.new.items;
         }) table.new (after_closes past) samples) }
+    ensures handles { OnOk result ((a : ℕ) → (record_in records.new.entries a).handles
+        ≡ (record_in records.old.entries a).handles) }
+    ensures was_open { OnOk result ((a : ℕ)
+        → is_open (state_value (record_in records.new.entries a).life.state) ≡ true
+        → is_open (state_value (record_in records.old.entries a).life.state) ≡ true) }
+    ensures waiting { OnOk result (table.new.waiting ≡ table.old.waiting) }
+    ensures count { OnOk result (table.new.made.count
+        ≤ table.old.made.count + length live.now) }
 {
     let mut at = 0;
     for actor in live {

@@ -23,6 +23,7 @@ pub fn hear_all(records: &mut HashMap<u32, ActorRecord>, pending: &[Guid], table
     ensures same_open { (a : ℕ) → is_open (state_value (record_in records.new.entries a).life.state)
         ≡ is_open (state_value (record_in records.old.entries a).life.state) }
     ensures waiting { table.new.waiting ≡ table.old.waiting }
+    ensures made { table.new.made ≡ table.old.made }
     ensures hears { (past later : Past) → IsGrown past later
         → Hearing past later pending.now records.old.entries table.old
         → Hearing past later [] records.new.entries table.new }

@@ -11,7 +11,7 @@ ghost use Rattle.channel_table.specs.Keeps.{Keeps as KeepsTable};
 ghost use Rattle.class_layout.specs.Tables.{Layout};
 ghost use Rattle.sender_records.specs.Service.{KeepsService, shows_owned};
 ghost use Rattle.sender_steps.specs.Sender.{record_in};
-ghost use Rattle.sender_steps.specs.Stands.{is_known_by, is_open_gone, has_known, AreOpensMade, AreServed};
+ghost use Rattle.sender_steps.specs.Stands.{is_known_by, is_open_gone, has_known, makes_known, AreOpensMade, AreServed};
 ghost use Rattle.sender_steps.specs.Sights.{sight_value, actors_in};
 
 use crate::sent::OpenSent;
@@ -23,7 +23,8 @@ use sender_records::ActorRecord;
 use std::alloc::Global;
 use std::collections::HashMap;
 
-/// Takes for known the segments of each open that has arrived whole, and forgets these opens.
+/// Takes for known the segments of each open that has arrived whole, and forgets these opens: none
+/// that is left makes a segment known by now.
 pub fn learn(opens: &mut Vec<OpenSent>, known: &mut Vec<bool>, table: &ChannelTable)
     ensures made { (past : Past) → KeepsTable table.now AtServer past
         → AreOpensMade past known.old.items opens.old.items
@@ -33,6 +34,9 @@ pub fn learn(opens: &mut Vec<OpenSent>, known: &mut Vec<bool>, table: &ChannelTa
         → AreOpensMade past known.old.items opens.old.items → (g : ℕ)
         → is_known_by later known.new.items opens.new.items g
         ≡ is_known_by later known.old.items opens.old.items g }
+    ensures rest { (past : Past) → KeepsTable table.now AtServer past
+        → AreOpensMade past known.old.items opens.old.items → (g : ℕ)
+        → list_any (makes_known past g) opens.new.items ≡ false }
 {
     note_arrived(opens.as_slice(), known, table);
     opens.retain(

@@ -12,3 +12,7 @@ pub mod Unsent
 pub mod Entering
 pub mod FreeIndex
 pub mod Packed
+pub mod Short
+pub mod Offered
+pub mod Opened
+pub mod Told

@@ -197,7 +197,7 @@ agreed (x ∷ samples) h v s e at =
           Some (unwrap_or o (pos 0)) in r) at_x,
     )
 
-values_agree : (samples : Samples) (seen : Seen) → AgreesWith samples seen
+pub values_agree : (samples : Samples) (seen : Seen) → AgreesWith samples seen
     → Agrees (samples_of samples seen.actor) seen.values
 values_agree samples seen agrees h v e ne =
     let k = stands_in seen.values h v e in
@@ -206,7 +206,7 @@ values_agree samples seen agrees h v e ne =
 
 -- ---- what stands before the turns
 
-actors_ascend : (layout : Layout) (sight : List SeenValue) (low : ℕ) → AscendsFrom low (sight_value layout sight)
+pub actors_ascend : (layout : Layout) (sight : List SeenValue) (low : ℕ) → AscendsFrom low (sight_value layout sight)
     → Ascends low (actors_in sight)
 actors_ascend layout [] low h = tt
 actors_ascend layout (s ∷ sight) low h = (h.0, actors_ascend layout sight s.actor h.2)

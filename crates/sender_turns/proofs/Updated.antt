@@ -1,7 +1,7 @@
 -- An update, by what stands before it.
-use Rattle.std.proofs.Common.{◌≡◌, ℕ, zero, suc, ◌+◌, ◌<◌, ◌≤◌, List, [], ◌∷◌, length, take, Bool, true, false, nat_lt, nat_le, Option, Some, None, refl, sym, ap, ◌∙◌, subst, arith, if◌then◌else◌}
-use Rattle.std.specs.List.{filter, slice_get}
-use Rattle.std.proofs.lemmas.Bool.{false≢true, leb-true}
+use Rattle.std.proofs.Common.{◌≡◌, ℕ, zero, suc, ◌+◌, ◌<◌, ◌≤◌, ◌==◌, ◌&&◌, ◌||◌, List, [], ◌∷◌, length, take, Bool, true, false, nat_lt, nat_le, Option, Some, None, refl, sym, ap, ◌∙◌, subst, arith, if◌then◌else◌}
+use Rattle.std.specs.List.{filter, list_any, slice_get}
+use Rattle.std.proofs.lemmas.Bool.{eq-eqb, false≢true, leb-true}
 use Rattle.protocol_laws.proofs.Lengths.{length-packed}
 use Rattle.protocol_model.specs.Limits.{part_bits, update_bits}
 use Rattle.protocol_model.specs.Payload.{message_bits}
@@ -31,6 +31,7 @@ use Rattle.sender_records.specs.Actors.{KeepsActor}
 use Rattle.sender_records.specs.Handles.{pairs_of, handle_in, AreApart, Agrees, AllBelow}
 use Rattle.sender_steps.specs.declared.sight.Seen.{Seen as SeenValue}
 use Rattle.sender_steps.specs.Sights.{seen_value}
+use Rattle.sender_steps.specs.Stands.{is_update_sent}
 use Rattle.sender_turns.specs.Updating.{is_marked_value, IsUpdating, note_of}
 use Rattle.sender_turns.proofs.Serving.{filters_one, part_of, part_apart, part_agrees, part_below, Goes, goes}
 
@@ -126,6 +127,15 @@ module _ (layout : Layout) (s : SeenValue) (r : ActorRecord) (l : Link) (t : Cha
         ∙ ap (λ (n : ℕ). record { packet = n; actor = s.actor } ∷ [])
         (ap (λ (past : Past). last_sent past + length (after_offer end p item).packets) (offer_past end p item)
         ∙ sym number)
+
+    -- the note names the packet
+    pub noted_in : (n : ℕ) → n ≡ packet
+        → list_any (is_update_sent n s.actor) (note_of s.actor (after_update end p seen (Some ch) (due_pairs now seen)))
+        ≡ true
+    noted_in n e =
+        ap (list_any (is_update_sent n s.actor)) one_note
+        ∙ ap (λ (b : Bool). b && (s.actor == s.actor) || false) (eq-eqb packet n (sym e))
+        ∙ ap (λ (b : Bool). b || false) (eq-eqb s.actor s.actor refl)
 
     pub goes_in : Goes end p item s.actor samples r packet tick
     goes_in =

@@ -1,5 +1,5 @@
 -- The update of one actor, in its turn.
-use Rattle.std.specs.Prelude.{◌≡◌, ℕ, ◌+◌, ◌<◌, ◌≤◌, ◌&&◌, List, [], ◌∷◌, length, Bool, true, false, Some, nat_lt, IsTrue, if◌then◌else◌}
+use Rattle.std.specs.Prelude.{◌≡◌, ◌⊎◌, ℕ, ◌+◌, ◌<◌, ◌≤◌, ◌&&◌, List, [], ◌∷◌, length, Bool, true, false, Some, nat_lt, IsTrue, if◌then◌else◌}
 use Rattle.std.specs.List.{list_any}
 use Rattle.protocol_model.specs.Packet.{channel_limit}
 use Rattle.protocol_model.specs.Side.{AtServer}
@@ -25,6 +25,7 @@ use Rattle.sender_records.specs.Actors.{KeepsActor}
 use Rattle.sender_steps.specs.declared.sight.Seen.{Seen as SeenValue}
 use Rattle.sender_steps.specs.declared.sent.UpdateSent.{UpdateSent}
 use Rattle.sender_steps.specs.Sights.{seen_value}
+use Rattle.sender_steps.specs.Stands.{is_update_sent}
 use Rattle.sender_turns.specs.Turning.{AreSampled, IsCompared}
 
 -- an update may hold the handle of the value, and it is marked
@@ -37,6 +38,13 @@ abbrev pub note_of : (actor : ℕ) → Packing → List UpdateSent
 note_of a p =
     if p.full then []
     else record { packet = last_sent p.past + length p.packets; actor = a } ∷ []
+
+-- each handle of the actor went last in a packet that these notes name, or in the one that it went in
+-- before
+abbrev pub AreNoted : (actor : ℕ) → List UpdateSent → (before after : HandlesKept) → Type 0
+AreNoted a notes before after = (h : ℕ)
+    → (list_any (is_update_sent (handle_in after.handles h).packet a) notes ≡ true)
+    ⊎ ((handle_in after.handles h).packet ≡ (handle_in before.handles h).packet)
 
 -- the turn of an actor to be updated, in a tick that began after `before` and in which each item
 -- found room: it holds this index, was compared after the deeds `now` and has something due, no

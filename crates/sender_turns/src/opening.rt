@@ -1,6 +1,7 @@
-// Opens: which segments a client needs, and what is kept of an open that was made.
+// Parts of an open: which segments a client needs, on which channel it goes, how it is spelled, and
+// what is kept of one that was made.
 ghost use Rattle.std.specs.Prelude.{◌≡◌, ◌≢◌, ◌<◌, ◌≤◌, ◌+◌, ◌^◌, ◌++◌, ◌∷◌, ◌==◌, ◌||◌, [], ℕ, List, Bool, Some, true, false, map, filter, length, slice_get, slice_index_or, IfOk, IsTrue, OnErr, OnOk};
-ghost use Rattle.protocol_model.specs.Limits.{channels_one, handle_limit};
+ghost use Rattle.protocol_model.specs.Limits.{channels_one, handle_limit, payload_bits};
 ghost use Rattle.protocol_model.specs.Search.{is_among};
 ghost use Rattle.protocol_model.specs.Payload.{Message, Opens, message_bits, parts_of};
 ghost use Rattle.protocol_model.specs.World.{class_at};
@@ -49,7 +50,7 @@ use std::collections::HashMap;
 const CHANNELS: u16 = 10_240;
 
 /// The segments of a path that the client doesn't know, outermost first.
-pub fn needed(alloc: Global, known: &[bool], path: &[Guid]) -> Result<GuidList, Memory>
+pub(crate) fn needed(alloc: Global, known: &[bool], path: &[Guid]) -> Result<GuidList, Memory>
     ensures { IfOk result (λ guids. guids ≡ filter (is_unknown known.now) path.now) }
 {
     let mut guids = GuidList::new(alloc);
@@ -63,14 +64,14 @@ pub fn needed(alloc: Global, known: &[bool], path: &[Guid]) -> Result<GuidList, 
 
 /// An open as it is spelled: the segments that it exports, and its payload.
 #[derive(Drop)]
-pub struct SpelledOpen {
+pub(crate) struct SpelledOpen {
     pub guids: GuidList,
     pub payload: Bits,
 }
 
 /// Spells the open of an actor as it is seen, with the segments that the client doesn't know. Its
 /// class is a place in the table.
-pub fn spell_open(
+pub(crate) fn spell_open(
     alloc: Global,
     known: &[bool],
     classes: &Classes,
@@ -87,6 +88,7 @@ pub fn spell_open(
         → ((g : ℕ) → is_known_in past g ≡ slice_index_or known.now g false) → (g : ℕ)
         → exports_segment g (open_message past (seen_value classes.now seen.now))
         ≡ is_among g o.guids) }
+    ensures most { IfOk result (λ o. length o.payload ≤ payload_bits) }
 {
     classes.keeps_rules();
     path_may_be_exported();
@@ -116,7 +118,7 @@ fn is_known(known: &[bool], guid: Guid) -> bool
 
 /// Notes an open that exports segments, with a place for each among those that are known or not.
 /// After `Memory` there may be more places, but nothing else is known.
-pub fn note_open(
+pub(crate) fn note_open(
     opens: &mut Vec<OpenSent>,
     known: &mut Vec<bool>,
     channel: u16,
@@ -217,7 +219,7 @@ fn make_places(known: &mut Vec<bool>, count: usize) -> Result<(), Memory>
 
 /// The index for the next open: the least that no actor holds and on which all has arrived.
 /// `Memory` where that is 10,240 or more, which no actor holds in either version.
-pub fn free_channel(table: &ChannelTable) -> Result<u16, Memory>
+pub(crate) fn free_channel(table: &ChannelTable) -> Result<u16, Memory>
     ensures index { IfOk result (λ ch. (s : Sender) (past : Past) (samples : Samples)
         → KeepsBoth s table.now past samples → ch ≡ free_index past) }
     ensures free { IfOk result (λ ch. (s : Sender) (past : Past) (samples : Samples) (a : ℕ)
@@ -239,7 +241,7 @@ pub fn free_channel(table: &ChannelTable) -> Result<u16, Memory>
 /// of it: the actor's record, its segments, that the actor is pending and live, and that it holds
 /// the channel, which no actor held. The changes are those of the actor since tick 0. An actor that
 /// was never shown has no record, and is refused.
-pub fn keep_open(
+pub(crate) fn keep_open(
     records: &mut HashMap<u32, ActorRecord>,
     pending: &mut Vec<Guid>,
     live: &mut Vec<Guid>,
@@ -279,6 +281,10 @@ pub fn keep_open(
         → AreBound table.new.bound (sent ++ after_making past made.channel
         (Opens exports seen.now.actor shown (pairs_of seen.now.values)))) }
     ensures rest { OnOk result (table.new ≡ record table.old { bound = table.new.bound }) }
+    ensures others { OnOk result ((a : ℕ) → seen.now.actor ≢ a
+        → record_in records.new.entries a ≡ record_in records.old.entries a) }
+    ensures places { OnOk result ((g : ℕ) → slice_index_or known.new.items g false
+        ≡ slice_index_or known.old.items g false) }
 {
     open_in(records, class, seen, tick, made.channel, changes)?;
     pending.push(seen.actor)?;

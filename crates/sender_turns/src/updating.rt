@@ -13,7 +13,7 @@ ghost use Rattle.bunch_packing.specs.Both.{PacksBoth};
 ghost use Rattle.sender_records.specs.Actors.{KeepsActor};
 ghost use Rattle.sender_steps.specs.Sender.{record_in};
 ghost use Rattle.sender_steps.specs.Sights.{seen_value};
-ghost use Rattle.sender_turns.specs.Updating.{is_marked_value, IsUpdating, note_of};
+ghost use Rattle.sender_turns.specs.Updating.{is_marked_value, IsUpdating, AreNoted, note_of};
 
 use crate::turns::is_due;
 use bit_io::Memory;
@@ -62,6 +62,15 @@ pub fn update(
         → KeepsActor (sent_now (after_update end p (seen_value classes.now seen.now) (Some ch)
         (due_pairs now (seen_value classes.now seen.now)))) samples seen.now.actor
         (record_in records.new.entries seen.now.actor)) }
+    ensures packets { OnOk result ((t : Channels) (end : End) (before now : Past)
+        (p : Packing) (ch : ℕ) (samples : List Sample)
+        → IsUpdating classes.now seen.now (record_in records.old.entries seen.now.actor) link.old t
+        end before now p ch samples tick
+        → AreNoted seen.now.actor (note_of seen.now.actor
+        (after_update end p (seen_value classes.now seen.now) (Some ch)
+        (due_pairs now (seen_value classes.now seen.now))))
+        (record_in records.old.entries seen.now.actor).handles
+        (record_in records.new.entries seen.now.actor).handles) }
     ensures notes { OnOk result ((t : Channels) (end : End) (before now : Past)
         (p : Packing) (ch : ℕ) (samples : List Sample)
         → IsUpdating classes.now seen.now (record_in records.old.entries seen.now.actor) link.old t
@@ -108,6 +117,14 @@ fn update_one(
         → IsUpdating classes.now seen.now kept.old link.old t end before now p ch samples tick
         → KeepsActor (sent_now (after_update end p (seen_value classes.now seen.now) (Some ch)
         (due_pairs now (seen_value classes.now seen.now)))) samples seen.now.actor kept.new) }
+    ensures packets { OnOk result ((t : Channels) (end : End) (before now : Past)
+        (p : Packing) (ch : ℕ) (samples : List Sample)
+        → IsUpdating classes.now seen.now kept.old link.old t
+        end before now p ch samples tick
+        → AreNoted seen.now.actor (note_of seen.now.actor
+        (after_update end p (seen_value classes.now seen.now) (Some ch)
+        (due_pairs now (seen_value classes.now seen.now))))
+        kept.old.handles kept.new.handles) }
     ensures notes { OnOk result ((t : Channels) (end : End) (before now : Past)
         (p : Packing) (ch : ℕ) (samples : List Sample)
         → IsUpdating classes.now seen.now kept.old link.old t end before now p ch samples tick

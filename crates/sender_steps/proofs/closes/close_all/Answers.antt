@@ -21,6 +21,9 @@ loop-actor-init c = record {
       (subst (λ (ps : List ℕ). KeepsBoth (record s { pending = ps }) c.args.table.now past samples) b.pending_are
       b.both);
   made = omega arith;
+  handles = λ a. refl;
+  was_open = λ a o. o;
+  waiting = refl;
   before = λ i e at lt j a le q. absurd (omega (arith, lt));
 }
 
@@ -53,7 +56,8 @@ loop-actor-preserved c =
     a c.seek-at.result c.close_one.new.records.entries c.close_one.new.pending.items c.close_one.new.table is ascends
     (λ p. fold_more after_close p c.args.live.now i a (omega arith)
     ∙ ap (after_close (fold after_close p (take i c.args.live.now))) (sym c.actor-item.is))
-    before c.in_ok-close_one.ensures.count
+    before c.in_ok-close_one.ensures.count c.in_ok-close_one.ensures.handles c.in_ok-close_one.ensures.was_open
+    c.in_ok-close_one.ensures.waiting
     (λ s past samples b. c.in_ok-close_one.ensures.keeps (record s {
       records = c.loop-actor.records.entries;
       pending =
@@ -70,8 +74,20 @@ loop-actor-preserved c =
     c.loop-actor.records.entries c.loop-actor.pending.items c.loop-actor.table c.loop-actor.invariant s past samples
     b))))
 
-pub returns : goal.returns
-returns c = λ s past samples b.
+pub returns-clause-handles : goal.returns-clause-handles
+returns-clause-handles c = c.loop-actor.invariant.handles
+
+pub returns-clause-was_open : goal.returns-clause-was_open
+returns-clause-was_open c = c.loop-actor.invariant.was_open
+
+pub returns-clause-waiting : goal.returns-clause-waiting
+returns-clause-waiting c = c.loop-actor.invariant.waiting
+
+pub returns-clause-count : goal.returns-clause-count
+returns-clause-count c = omega (arith, c.loop-actor.invariant.made)
+
+pub returns-clause-keeps : goal.returns-clause-keeps
+returns-clause-keeps c = λ s past samples b.
     subst (λ (p : Past). KeepsBoth (record s {
       records = c.loop-actor.records.entries;
       pending =

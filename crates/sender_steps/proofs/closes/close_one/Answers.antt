@@ -1,4 +1,5 @@
-use Rattle.std.proofs.Common.{◌≡◌, ◌∙◌, ◌∷◌, ◌++◌, [], ℕ, List, true, ap, sym, refl, subst}
+use Rattle.std.proofs.Common.{◌≡◌, ◌≢◌, ◌∙◌, inl, inr, ◌∷◌, ◌++◌, [], ℕ, List, true, ap, sym, refl, subst}
+use Rattle.std.proofs.lemmas.Bool.{cases_eq}
 use Rattle.protocol_model.specs.Search.{is_among}
 use Rattle.connection_model.specs.Feed.{Past}
 use Rattle.connection_model.specs.Pack.{after_close}
@@ -8,11 +9,13 @@ use Rattle.shadow_changes.specs.Samples.{Samples, samples_of}
 use Rattle.sender_laws.specs.States.{is_pending}
 use Rattle.sender_records.specs.declared.actor.ActorRecord.{ActorRecord}
 use Rattle.sender_records.specs.Actors.{KeepsActor}
+use Rattle.sender_records.specs.Handles.{HandlesKept}
 use Rattle.sender_records.specs.Life.{state_value}
 use Rattle.sender_steps.specs.Sender.{Sender, record_in}
 use Rattle.sender_steps.specs.Stands.{KeepsBoth}
 use Rattle.sender_steps.proofs.Ends.{EndsOne, ends_one}
 use Rattle.sender_steps.proofs.Goes.{close_goes_on}
+use Rattle.sender_steps.proofs.Records.{everywhere}
 use Rattle.sender_steps.proofs.Pushes.{pushed_itself, pushed_others}
 use Rattle.sender_steps.proofs.closes.close_one.Goals as goal
 
@@ -85,3 +88,36 @@ returns-else-branch-clause-keeps c = λ s past samples both rs ps live tick seen
     c.end_in.new.table (after_close past a) samples) ps
     (ends_one s c.args.table.now c.end_in.new.table past (after_close past a) samples a c.end_in.new.records.entries
     s.pending both (close_goes_on s c.args.table.now past samples both a) one)
+
+-- the record of one actor alone has changed
+module _ (a : ℕ) (now new : List (ℕ × ActorRecord)) (others : (b : ℕ) → a ≢ b → record_in new b ≡ record_in now b)
+  where
+    same_handles : (record_in new a).handles ≡ (record_in now a).handles → (b : ℕ)
+        → (record_in new b).handles ≡ (record_in now b).handles
+    same_handles e b = everywhere HandlesKept (λ (r : ActorRecord). r.handles) a now new others e b
+
+    were_open : (is_open (state_value (record_in new a).life.state) ≡ true
+        → is_open (state_value (record_in now a).life.state) ≡ true) → (b : ℕ)
+        → is_open (state_value (record_in new b).life.state) ≡ true
+        → is_open (state_value (record_in now b).life.state) ≡ true
+    were_open h b o = elim (cases_eq a b) [
+      | inl e ↦ subst (λ (x : ℕ). is_open (state_value (record_in now x).life.state) ≡ true) e
+          (h (subst (λ (x : ℕ). is_open (state_value (record_in new x).life.state) ≡ true) (sym e) o))
+      | inr ne ↦ sym (ap (λ (r : ActorRecord). is_open (state_value r.life.state)) (others b ne)) ∙ o
+    ]
+
+pub returns-in_ok-push-clause-handles : goal.returns-in_ok-push-clause-handles
+returns-in_ok-push-clause-handles c = same_handles c.args.actor c.args.records.now.entries
+    c.end_in.new.records.entries c.in_ok-end_in.ensures.others c.in_ok-end_in.ensures.handles
+
+pub returns-else-branch-clause-handles : goal.returns-else-branch-clause-handles
+returns-else-branch-clause-handles c = same_handles c.args.actor c.args.records.now.entries
+    c.end_in.new.records.entries c.in_ok-end_in.ensures.others c.in_ok-end_in.ensures.handles
+
+pub returns-in_ok-push-clause-was_open : goal.returns-in_ok-push-clause-was_open
+returns-in_ok-push-clause-was_open c = were_open c.args.actor c.args.records.now.entries
+    c.end_in.new.records.entries c.in_ok-end_in.ensures.others c.in_ok-end_in.ensures.was_open
+
+pub returns-else-branch-clause-was_open : goal.returns-else-branch-clause-was_open
+returns-else-branch-clause-was_open c = were_open c.args.actor c.args.records.now.entries
+    c.end_in.new.records.entries c.in_ok-end_in.ensures.others c.in_ok-end_in.ensures.was_open

@@ -11,6 +11,7 @@ loop-actor-init c = record {
   handles = λ a. refl;
   same_open = λ a. refl;
   waiting = refl;
+  made = refl;
   hears = λ past later g h. h;
 }
 

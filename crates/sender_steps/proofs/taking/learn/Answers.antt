@@ -5,8 +5,8 @@ use Rattle.protocol_model.specs.Side.{AtServer}
 use Rattle.connection_model.specs.Feed.{Past}
 use Rattle.channel_table.specs.Keeps.{Keeps}
 use Rattle.sender_steps.specs.declared.sent.OpenSent.{OpenSent}
-use Rattle.sender_steps.specs.Stands.{has_known, is_open_gone, is_known_by, AreOpensMade}
-use Rattle.sender_steps.proofs.Learning.{left_made, learnt}
+use Rattle.sender_steps.specs.Stands.{has_known, is_open_gone, is_known_by, makes_known, AreOpensMade}
+use Rattle.sender_steps.proofs.Learning.{left_made, learnt, none_left}
 use Rattle.sender_steps.proofs.taking.learn.Goals as goal
 
 pub returns : goal.returns
@@ -18,6 +18,8 @@ returns c = record {
       os g ≡ is_known_by later c.args.known.now.items c.args.opens.now.items g) (sym (left past k))
       (learnt c.args.table.now past c.args.known.now.items c.note_arrived.new.known.items c.args.opens.now.items k made
       c.note_arrived.ensures.length (places past k) later grows g);
+  rest = λ past k made g. subst (λ (os : List OpenSent). list_any (makes_known past g) os ≡ false) (sym (left past k))
+      (none_left past g c.args.known.now.items c.args.opens.now.items made);
 }
   where
     places : (past : Past) → Keeps c.args.table.now AtServer past → (g : ℕ) → g < length c.args.known.now.items

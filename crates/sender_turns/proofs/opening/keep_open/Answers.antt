@@ -66,3 +66,9 @@ returns-clause-bound c = λ sent past exports shown bound sends.
     bound_opened sent past c.args.seen.now.actor c.args.made.channel exports shown
     (pairs_of c.args.seen.now.values) sends c.args.table.now.bound c.bind.new.self.bound bound
     c.in_ok-bind.ensures.channels c.in_ok-bind.ensures.pairs
+
+pub returns-clause-others : goal.returns-clause-others
+returns-clause-others c = λ a ne. c.in_ok-open_in.ensures.others a ne
+
+pub returns-clause-places : goal.returns-clause-places
+returns-clause-places c = c.in_ok-note_open.ensures.known

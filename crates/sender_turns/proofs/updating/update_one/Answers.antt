@@ -1,4 +1,4 @@
-use Rattle.std.proofs.Common.{◌≡◌, ◌∙◌, inr, ℕ, ◌<◌, List, ◌++◌, length, take, not, refl, sym, ap, subst, arith, append-nil}
+use Rattle.std.proofs.Common.{◌≡◌, ◌∙◌, inl, inr, ℕ, ◌<◌, List, ◌++◌, length, take, not, refl, sym, ap, subst, arith, append-nil}
 use Rattle.std.specs.Bool.{IsTrue}
 use Rattle.std.specs.List.{filter}
 use Rattle.protocol_model.specs.Packet.{channel_limit}
@@ -18,13 +18,13 @@ use Rattle.link_end.specs.Packs.{sent_now}
 use Rattle.payload_writing.specs.Values.{pair_fits, pairs_fit}
 use Rattle.sender_laws.specs.Acts.{sent_more}
 use Rattle.sender_records.specs.Actors.{KeepsActor}
-use Rattle.sender_records.specs.Handles.{pairs_of, AreApart, Agrees, AllBelow}
+use Rattle.sender_records.specs.Handles.{handle_in, pairs_of, AreApart, Agrees, AllBelow}
 use Rattle.sender_steps.specs.declared.sent.UpdateSent.{UpdateSent}
 use Rattle.sender_steps.specs.Sights.{seen_value}
 use Rattle.sender_turns.specs.Updating.{is_marked_value}
 use Rattle.sender_steps.proofs.Tables.{class_there}
 use Rattle.sender_turns.proofs.Serving.{all_filtered}
-use Rattle.sender_turns.proofs.Updated.{update_short, due_values, held, after_is, full_then, keeps_full, no_note, ready_then, one_note, same_index, no_index, all_there, goes_in, apart_went, agrees_went, below_went}
+use Rattle.sender_turns.proofs.Updated.{update_short, due_values, held, after_is, full_then, keeps_full, no_note, ready_then, one_note, noted_in, same_index, no_index, all_there, goes_in, apart_went, agrees_went, below_went}
 use Rattle.sender_turns.proofs.updating.update_one.Goals as goal
 
 pub returns-in_default-clause-room : goal.returns-in_default-clause-room
@@ -258,6 +258,50 @@ returns-clause-packs c = λ t end before now p ch samples h.
     (loose_item m n))) index (c.in_ok-packet.ensures.packs t end AtServer before p m h.both bits) in
     subst (PacksBoth c.offer_loose.new.link t end AtServer before) (after_is c.args.classes.now c.args.seen.now
     c.args.kept.now c.args.link.now t end before now p ch samples c.args.tick h) packs
+
+pub returns-in_default-clause-packets : goal.returns-in_default-clause-packets
+returns-in_default-clause-packets c = λ t end before now p ch samples h n. inr refl
+
+pub returns-in_default-class-clause-packets : goal.returns-in_default-class-clause-packets
+returns-in_default-class-clause-packets c = λ t end before now p ch samples h n. inr refl
+
+pub returns-in_default-2-clause-packets : goal.returns-in_default-2-clause-packets
+returns-in_default-2-clause-packets c = λ t end before now p ch samples h n. inr refl
+
+pub returns-clause-packets : goal.returns-clause-packets
+returns-clause-packets c = λ t end before now p ch samples h n.
+    let class = class_there c.args.classes.now c.args.seen.now.class c.in-Some-class.class.now
+    (sym c.in-Some-class.ensures) in
+    let values : c.as_slice.result.now ≡ due_values c.args.classes.now c.args.seen.now c.args.kept.now
+    c.args.link.now t end before now p ch samples c.args.tick h =
+    c.as_slice.ensures.value ∙ c.in_ok-due.ensures c.args.classes.now.segments
+    ∙ ap (λ (k : Class). filter (is_marked_value k c.args.seen.now.owns c.args.kept.now.handles)
+    c.args.seen.now.values) (sym class) in
+    let seen = seen_value c.args.classes.now c.args.seen.now in
+    let m = update_message seen (update_pairs seen (pairs_of (due_values c.args.classes.now c.args.seen.now
+    c.args.kept.now c.args.link.now t end before now p ch samples c.args.tick h))) in
+    let index = same_index c.in-Some.index ch (sym c.in-Some.is ∙ held c.args.classes.now c.args.seen.now
+    c.args.kept.now c.args.link.now t end before now p ch samples c.args.tick h) in
+    let bits : message_bits m ≡ slice_bits c.lend.result =
+    ap (λ (vs : List Pair). message_bits (update_message seen (update_pairs seen (pairs_of vs)))) (sym values)
+    ∙ sym (c.in_ok-payload.ensures.bits seen refl) ∙ sym c.lend.ensures in
+    let told = c.in_ok-packet.ensures.packet t end AtServer before p m h.both bits
+    ∙ ap (λ (n : ℕ). packet_for end p (loose_item m n)) index in
+    let some = had_room end p (loose_item m ch) c.in-Some-2.packet (sym c.in-Some-2.is ∙ told) in
+    let parts : c.deref.result.now ≡ due_values c.args.classes.now c.args.seen.now c.args.kept.now c.args.link.now t
+    end before now p ch samples c.args.tick h =
+    c.deref.ensures.value ∙ c.in_ok-due.ensures c.args.classes.now.segments
+    ∙ ap (λ (k : Class). filter (is_marked_value k c.args.seen.now.owns c.args.kept.now.handles)
+    c.args.seen.now.values) (sym class) in
+    let count = c.in_ok-payload.payload.count in
+    let packet = c.in-Some-2.packet in
+    elim (c.carries.ensures.packets (subst (λ (vs : List Pair). AreApart (pairs_of (take count vs))) (sym parts)
+    (apart_went c.args.classes.now c.args.seen.now c.args.kept.now c.args.link.now t end before now p ch samples
+    c.args.tick h count)) n) [
+      | inl e ↦ inl (noted_in c.args.classes.now c.args.seen.now c.args.kept.now c.args.link.now t end before now p ch
+          samples c.args.tick h some.0 packet some.1 (handle_in c.carries.new.self.handles.handles n).packet e)
+      | inr e ↦ inr e
+    ]
 
 pub returns-clause-keeps : goal.returns-clause-keeps
 returns-clause-keeps c = λ t end before now p ch samples h.

@@ -1,8 +1,9 @@
-use Rattle.std.proofs.Common.{arith, ◌≡◌, ◌∙◌, ℕ, List, length, ap, sym, refl, subst}
+use Rattle.std.proofs.Common.{arith, ◌≡◌, ◌∙◌, ℕ, List, length, true, ap, sym, refl, subst}
+use Rattle.connection_model.specs.State.{is_open}
 use Rattle.connection_laws.specs.Run.{Ascends}
 use Rattle.sender_steps.specs.declared.sight.Seen.{Seen}
 use Rattle.sender_steps.specs.Closing.{IsTicked}
-use Rattle.sender_steps.specs.Sender.{Sender}
+use Rattle.sender_steps.specs.Sender.{Sender, record_at, state_kept}
 use Rattle.sender_steps.specs.Sights.{sight_value, actors_in}
 use Rattle.sender_steps.specs.Stands.{KeepsBoth}
 use Rattle.actor_sender.proofs.sender.ActorSender.make_closes.Goals as goal
@@ -58,7 +59,7 @@ returns-in-Ok-clause-keeps c = λ past samples both sight ascends.
       spent = c.self.inside.spent;
     } in
     let both' = subst (λ (x : Sender). KeepsBoth x c.args.table.now past samples) (sym c.self.view_is) both in
-    c.in-Ok.ensures s past samples (record {
+    c.in-Ok.ensures.keeps s past samples (record {
       both = both';
       records_are = refl;
       pending_are = refl;
@@ -67,3 +68,30 @@ returns-in-Ok-clause-keeps c = λ past samples both sight ascends.
       sight_is = sight ∙ ap (sight_value c.args.classes.now) (sym c.as_slice-sight.ensures);
       ascends = subst (λ (xs : List Seen). Ascends 0 (actors_in xs)) (sym c.as_slice-sight.ensures) ascends;
     })
+
+pub returns-in-Ok-clause-rest : goal.returns-in-Ok-clause-rest
+returns-in-Ok-clause-rest c =
+    ap (λ (x : Sender). record x {
+      records = c.close_all.new.records.entries;
+      pending = c.close_all.new.pending.items;
+    }) c.self.view_is
+
+pub returns-in-Ok-clause-handles : goal.returns-in-Ok-clause-handles
+returns-in-Ok-clause-handles c = λ a.
+    c.in-Ok.ensures.handles a ∙ ap (λ (x : Sender). (record_at x a).handles) c.self.view_is
+
+pub returns-in-Ok-clause-was_open : goal.returns-in-Ok-clause-was_open
+returns-in-Ok-clause-was_open c = λ a o.
+    subst (λ (x : Sender). is_open (state_kept x a) ≡ true) c.self.view_is (c.in-Ok.ensures.was_open a o)
+
+pub returns-in-Ok-clause-waiting : goal.returns-in-Ok-clause-waiting
+returns-in-Ok-clause-waiting c = c.in-Ok.ensures.waiting
+
+pub returns-in-Ok-clause-count : goal.returns-in-Ok-clause-count
+returns-in-Ok-clause-count c =
+    omega (
+      arith,
+      c.in-Ok.ensures.count,
+      ap length c.as_slice-live.ensures.value,
+      ap (λ (x : Sender). length x.live) c.self.view_is,
+    )

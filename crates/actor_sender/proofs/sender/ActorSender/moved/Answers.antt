@@ -13,8 +13,8 @@ use Rattle.sender_steps.specs.Stands.{StandsBoth}
 use Rattle.sender_steps.proofs.Moving.{MovesAll, both_later}
 use Rattle.actor_sender.proofs.sender.ActorSender.moved.Goals as goal
 
-pub returns : goal.returns
-returns c = λ past after samples both is.
+pub returns-clause-stands : goal.returns-clause-stands
+returns-clause-stands c = λ past after samples both is.
     let s : Sender = record {
       records = c.self.inside.records.entries;
       updates = c.self.inside.updates.items;

@@ -1,0 +1,12 @@
+pub mod Extended
+pub mod Same
+pub mod Counts
+pub mod Begins
+pub mod First
+pub mod Ready
+pub mod Serves
+pub mod Turns
+pub mod Packs
+pub mod Ends
+pub mod Unsighted
+pub mod Told

@@ -1,0 +1,13 @@
+mod Results
+mod Readings
+mod Told
+mod Channels
+mod Handing
+mod Leaving
+mod Turns
+mod Bunching
+mod Entries
+mod Fits
+mod Arrivals
+mod Opened
+mod Taking

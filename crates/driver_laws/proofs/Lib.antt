@@ -1,0 +1,10 @@
+pub mod Leaving
+pub mod Shown
+pub mod Calling
+pub mod Stalling
+pub mod Entries
+pub mod Actors
+pub mod Worlds
+pub mod Inserting
+pub mod Closing
+pub mod TickKeeps

@@ -1,0 +1,3 @@
+pub mod LineOf
+pub mod ReportOf
+pub mod ToldRight

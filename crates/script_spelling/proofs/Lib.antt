@@ -1,0 +1,4 @@
+pub mod Pieces
+pub mod Digits
+pub mod Spelling
+pub mod HexBytes
