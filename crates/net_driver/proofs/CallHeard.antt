@@ -70,7 +70,7 @@ pub record IsOnly (d : Drive) (player raised : ℕ) (later : List (Option Server
   pub more : d.greatest ≤ raised
   pub others : (k : ℕ) → (living_key (place_in d.chairs player) ≡ Some k → ⊥) → end_at later k ≡ end_at d.ends k
 
-other_stays : (d : Drive) (s : Served) (player raised : ℕ) (later : List (Option ServerEnd)) → Serves d s
+pub other_stays : (d : Drive) (s : Served) (player raised : ℕ) (later : List (Option ServerEnd)) → Serves d s
     → IsOnly d player raised later
     → (c : Chair) (t : Seat) → t.number ≢ player → IsSeated (table_in d.layout) s.edits s.samples d.greatest d.ends c t
     → IsSeated (table_in d.layout) s.edits s.samples raised later c t
@@ -100,6 +100,7 @@ heard_by d s player raised event later h only own = record {
   graph = h.graph;
   changes = h.changes;
   from_one = h.from_one;
+  there = h.there;
   seated = turns (table_in d.layout) s.edits s.samples d.greatest raised d.ends later player (heard event)
       (place_in d.chairs player)
       (other_stays d s player raised later h only) mine d.chairs s.seats refl h.rising h.seated;

@@ -14,7 +14,7 @@ use Rattle.net_driver.specs.declared.chair.Place.{Place}
 use Rattle.net_driver.specs.declared.chair.Place.TheVariants.{Living, Dead}
 use Rattle.net_driver.specs.Served.{Seat, Served, past_for}
 use Rattle.net_driver.specs.Ends.{AreOfWorld, IsLiving, IsPlace}
-use Rattle.net_driver.specs.Serves.{Drive, Serves, IsSeated}
+use Rattle.net_driver.specs.Serves.{Drive, Serves, IsSeated, AreThere}
 use Rattle.net_driver.proofs.Seats.{still}
 use Rattle.net_driver.proofs.Spawns.{spawn_stays, class_stays}
 
@@ -53,13 +53,15 @@ seated table edit edits samples greatest ends c s h = record { player = h.player
 pub edited : (d : Drive) (s : Served) (edit : Edit) (world : Kept) (graph : Graph) → Serves d s
     → StandsWorld world (edit ∷ s.edits) → world.layout ≡ d.world.layout
     → StandsGraph graph (table_in world.layout) (edit ∷ s.edits)
+    → AreThere (table_in d.layout) (edit ∷ s.edits)
     → Serves (record d { world = world; graph = graph }) (record s { edits = edit ∷ s.edits })
-edited d s edit world graph h stands layout follows = record {
+edited d s edit world graph h stands layout follows there = record {
   world = stands;
   layout = layout ∙ h.layout;
   graph = subst (λ l. StandsGraph graph (table_in l) (edit ∷ s.edits)) (layout ∙ h.layout) follows;
   changes = h.changes;
   from_one = h.from_one;
+  there = there;
   seated = still (table_in d.layout) s.edits (edit ∷ s.edits) s.samples s.samples d.greatest d.greatest d.ends d.ends
       (seated (table_in d.layout) edit s.edits s.samples d.greatest d.ends) d.chairs s.seats h.seated;
   rising = h.rising;

@@ -69,6 +69,7 @@ seated d s player budget version key e later chairs taken named none stands put 
   graph = h.graph;
   changes = h.changes;
   from_one = h.from_one;
+  there = h.there;
   seated = subst
       (λ (cs : List Chair). AreSeated (table_in d.layout) s.edits s.samples d.greatest later cs
       (with_joined new s).seats) (sym put)

@@ -11,3 +11,7 @@ mod InMemory
 mod CallHeard
 mod Meaning
 mod CallServed
+mod There
+mod Ending
+mod TakeServed
+mod Joined

@@ -110,6 +110,7 @@ died d s player later h stay = record {
   graph = h.graph;
   changes = h.changes;
   from_one = h.from_one;
+  there = h.there;
   seated = again (table_in d.layout) s.edits s.edits s.samples s.samples d.greatest d.greatest d.ends later
       (dead_for player 0)
       (λ (t : Seat). if t.number == player then lost_now t else t) each d.chairs s.seats h.seated;

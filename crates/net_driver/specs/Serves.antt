@@ -1,8 +1,8 @@
 -- How what a driver keeps follows from what the server was told.
-use Rattle.std.specs.Prelude.{◌≡◌, ℕ, ◌≤◌, ◌<◌, List, [], ◌∷◌, length, Bool, true, false, Option, ⊤}
+use Rattle.std.specs.Prelude.{◌≡◌, ℕ, ◌≤◌, ◌<◌, List, [], ◌∷◌, length, Bool, true, false, Option, Some, ⊤}
 use Rattle.protocol_model.specs.Limits.{connection_limit}
 use Rattle.protocol_model.specs.Value.{Table}
-use Rattle.protocol_model.specs.World.{Edits}
+use Rattle.protocol_model.specs.World.{Edits, Spawned, spawn_of}
 use Rattle.class_layout.specs.Tables.{Layout, table_in}
 use Rattle.world_table.specs.Kept.{Kept}
 use Rattle.world_table.specs.Stands.{Stands as StandsWorld}
@@ -52,6 +52,11 @@ abbrev pub AreRising : List Seat → Type 0
 AreRising [] = ⊤
 AreRising (s ∷ seats) = AreAbove s.number seats × AreRising seats
 
+-- each actor that was spawned has a class of the table
+abbrev pub AreThere : Table → Edits → Type 0
+AreThere table edits = (a : ℕ) (spawned : Spawned) → spawn_of edits a ≡ Some spawned
+    → spawned.class < length table
+
 -- the driver stands for what the server was told
 pub record Serves (d : Drive) (s : Served) : Type 0 where
   pub world : StandsWorld d.world s.edits
@@ -59,6 +64,7 @@ pub record Serves (d : Drive) (s : Served) : Type 0 where
   pub graph : StandsGraph d.graph (table_in d.layout) s.edits
   pub changes : KeepsSamples d.changes s.samples
   pub from_one : (a : ℕ) → AreTicksAbove 0 (samples_of s.samples a)
+  pub there : AreThere (table_in d.layout) s.edits
   pub seated : AreSeated (table_in d.layout) s.edits s.samples d.greatest d.ends d.chairs s.seats
   pub rising : AreRising s.seats
   pub few : length s.seats ≤ connection_limit

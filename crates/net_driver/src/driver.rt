@@ -29,6 +29,7 @@ use std::sync::ledger::{Blank, Ledger};
 use world_table::{Edit, EditRefusal, Look, World};
 
 mod hearing;
+mod taking;
 
 /// A server: the world, and the end of each player's connection.
 #[derive(Drop)]

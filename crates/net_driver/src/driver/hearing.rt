@@ -84,22 +84,23 @@ impl<'a> Driver<'a> {
                 Ok(answer)
             }
             Err(_) => {
-                self.die(player, Some(key));
+                self.die(player, Some(key), 0);
                 Err(Memory)
             }
         }
     }
 
-    /// A want of memory ends a player's end, which is under this key; all else stays.
-    fn die(&mut self, player: Player, key: Option<usize>)
+    /// A player's end, which is under this key, is dead, and took this greatest number; all else
+    /// stays.
+    pub(super) fn die(&mut self, player: Player, key: Option<usize>, top: u64)
         ensures ends { (k : ℕ) → (key ≡ Some k → ⊥)
             → end_at self.new.ends k ≡ end_at self.old.ends k }
-        ensures chairs { self.new.chairs ≡ map (dead_for player 0) self.old.chairs }
+        ensures chairs { self.new.chairs ≡ map (dead_for player top) self.old.chairs }
         ensures rest { self.new
             ≡ record self.old { ends = self.new.ends; chairs = self.new.chairs } }
     {
         drop_end(&mut self.ends, key);
-        put_dead(&mut self.chairs, player, 0);
+        put_dead(&mut self.chairs, player, top);
     }
 }
 

@@ -1,4 +1,5 @@
 use Rattle.std.proofs.Common.{List, [], sym, subst, arith}
+use Rattle.std.proofs.lemmas.Option.{none-some}
 use Rattle.class_layout.specs.Tables.{table_in}
 use Rattle.net_driver.specs.declared.chair.Chair.{Chair}
 use Rattle.net_driver.specs.Serves.{AreSeated}
@@ -11,6 +12,7 @@ returns-clause-serves c = record {
   graph = c.in_ok-graph.ensures.stands (table_in c.args.classes.now);
   changes = c.new-3.ensures;
   from_one = λ a. tt;
+  there = λ a spawned e. absurd (none-some spawned e);
   seated = subst (λ (cs : List Chair). AreSeated (table_in c.args.classes.now) [] [] 0 c.new-4.result.slots cs [])
       (sym c.new-5.ensures.items) tt;
   rising = search;

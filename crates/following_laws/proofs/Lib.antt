@@ -1,0 +1,6 @@
+mod Players
+mod Arguments
+mod Allowed
+mod FollowingEdits
+pub mod ReadFollowing
+mod Examples

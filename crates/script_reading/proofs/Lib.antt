@@ -1,0 +1,14 @@
+pub mod Judged
+pub mod Standing
+pub mod Named
+pub mod Ruled
+pub mod After
+pub mod CappedLines
+pub mod Reading
+pub mod Finding
+pub mod Linked
+pub mod CappedValues
+pub mod Keeping
+pub mod ArgumentSteps
+pub mod Scripts
+pub mod Whole

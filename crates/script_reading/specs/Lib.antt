@@ -1,0 +1,9 @@
+pub mod Kept
+pub mod Judging
+pub mod Stands
+pub mod KeptIn
+pub mod Members
+pub mod Taken
+pub mod Tells
+pub mod Gives
+pub mod Prepended

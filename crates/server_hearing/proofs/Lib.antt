@@ -1,0 +1,5 @@
+mod Judging
+mod Handing
+mod Going
+mod Taking
+mod Telling

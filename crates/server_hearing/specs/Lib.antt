@@ -1,0 +1,4 @@
+pub mod Calls
+pub mod Payloads
+pub mod Entries
+pub mod Datagrams
