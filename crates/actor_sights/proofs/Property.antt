@@ -52,14 +52,14 @@ prop_within class i p at =
     next : (i : ℕ) → i + 4 ≡ suc (i + 3)
     next i = omega arith
 
-own_place : (i : ℕ) → handle_of (i + 2) ≡ i + 4
+pub own_place : (i : ℕ) → handle_of (i + 2) ≡ i + 4
 own_place i = let x : nat_lt (i + 2) 2 ≡ false = grind (arith, nat_tests) in rw x (omega arith)
 
 not_role : (i : ℕ) → (i + 4 == 3) ≡ false
 not_role i = grind (arith, nat_tests)
 
-counted : (table : Table) (edits : Edits) (a : ℕ) (values : List Value) → map whole_of values ≡ values_of table edits a
-    → length values ≡ handle_count (class_of table edits a) - 1
+pub counted : (table : Table) (edits : Edits) (a : ℕ) (values : List Value)
+    → map whole_of values ≡ values_of table edits a → length values ≡ handle_count (class_of table edits a) - 1
 counted table edits a values e =
     sym (length-map values whole_of) ∙ ap (λ (zs : List ℤ). length zs) e
     ∙ length-map-range_with_len (λ k. value_of table edits a (handle_of k)) 0

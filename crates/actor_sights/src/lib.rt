@@ -4,10 +4,11 @@
 //     world --sampled(actor)--> values --seen(player, actor, look)--> an entry of the sight
 //                                  \---> shadow_changes
 //
-// It stands on `actor_sender` for what a sight is, on `world_table` for looks, values and switches, on
-// `class_layout` for classes, and on `rep_conditions` for which properties a connection sees. It promises that an entry is what the
-// definitions say that the player sees of the actor, and nothing of another connection: its values
-// are those that the player may see. Which actors are relevant is not asked here.
+// It stands on `actor_sender` for what a sight is, on `world_table` for looks, values and switches,
+// on `class_layout` for classes, and on `rep_conditions` for which properties a connection sees. It
+// promises that an entry is what the definitions say that the player sees of the actor, and nothing
+// of another connection: its values are those that the player may see, each of its handle's kind.
+// Which actors are relevant is not asked here.
 //
 // A caller, who samples an actor and shows it to two players:
 //

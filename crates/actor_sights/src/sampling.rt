@@ -6,7 +6,7 @@ ghost use Rattle.change_model.specs.Changes.{handle_of};
 ghost use Rattle.value_codec.specs.Values.{whole_of};
 ghost use Rattle.class_layout.specs.Tables.{table_in, class_of as class_value};
 ghost use Rattle.world_table.specs.Stands.{Stands};
-ghost use Rattle.actor_sights.specs.Sampled.{values_of};
+ghost use Rattle.actor_sights.specs.Sampled.{values_of, AreOf};
 
 use class_layout::Class;
 use net_core::{Guid, Handle, Items, Memory, Steps};
@@ -32,6 +32,11 @@ pub fn sampled<L: Ledger>(
         → class_of (table_in world.now.layout) edits actor
         ≡ class_value world.now.layout.segments class.now
         → map whole_of values ≡ values_of (table_in world.now.layout) edits actor) }
+    ensures fit { IfOk result (λ values. (edits : Edits) → Stands world.now edits
+        → spawn_of edits actor ≢ None
+        → class_of (table_in world.now.layout) edits actor
+        ≡ class_value world.now.layout.segments class.now
+        → AreOf (class_of (table_in world.now.layout) edits actor) values) }
     ensures steps { steps.new ≤ steps.old + length class.now.props + 2 }
 {
     let mut values = Vec::with_capacity(alloc, class.props.len() + 2)?;

@@ -24,7 +24,8 @@ fn part_word(why: PartWhy) -> &'static str
     }
 }
 
-fn why_word(why: Why) -> &'static str
+/// The name of the rule that a packet breaks.
+pub fn why_word(why: Why) -> &'static str
     ensures { result.now ≡ why_word why }
 {
     match why {

@@ -11,7 +11,7 @@ use std::alloc::Global;
 use std::fmt::Write;
 
 /// Bytes in lower-case hex, `-` for none.
-pub(crate) fn bytes_text(alloc: Global, bytes: &[u8]) -> Result<String, Memory>
+pub fn bytes_text(alloc: Global, bytes: &[u8]) -> Result<String, Memory>
     ensures { IfOk result (λ text. string_bytes text ≡ hex_of bytes.now) }
 {
     if bytes.is_empty() {

@@ -1,54 +1,28 @@
 -- A player's seat with one more call, and its end.
-use Rattle.std.proofs.Common.{◌≡◌, ◌≢◌, ℕ, ◌+◌, ◌≤◌, ◌==◌, List, ◌∷◌, Bool, true, false, Option, Some, refl, sym, ap, ◌∙◌, subst, arith, if◌then◌else◌}
-use Rattle.std.proofs.lemmas.Bool.{false≢true}
+use Rattle.std.proofs.Common.{◌≡◌, ◌≢◌, ℕ, ◌+◌, ◌≤◌, ◌==◌, List, Option, Some, refl, sym, ap, ◌∙◌, subst, arith, if◌then◌else◌}
 use Rattle.std.proofs.lemmas.List.{length-map}
 use Rattle.protocol_model.specs.Side.{AtServer}
 use Rattle.protocol_model.specs.Value.{Table, Arg}
 use Rattle.protocol_model.specs.World.{Edits}
 use Rattle.connection_model.specs.Feed.{End, Event, Past, Ended, ByStall, has_ended}
 use Rattle.connection_model.specs.Feed as feed
-use Rattle.connection_model.specs.Past.{after_event, past_of}
 use Rattle.connection_model.specs.CallAnswers.{after_call}
 use Rattle.class_layout.specs.Tables.{table_in}
 use Rattle.shadow_changes.specs.Samples.{Samples}
-use Rattle.net_driver.specs.declared.server_end.ServerEnd.{ServerEnd}
+use Rattle.server_end.specs.declared.server_end.ServerEnd.{ServerEnd}
 use Rattle.net_driver.specs.declared.chair.Chair.{Chair}
 use Rattle.net_driver.specs.declared.chair.Place.{Place}
 use Rattle.net_driver.specs.declared.chair.Place.TheVariants.{Living, Dead}
 use Rattle.net_driver.specs.Chairs.{place_in, living_key}
-use Rattle.net_driver.specs.Served.{Seat, Served, with_seat, heard, past_for, past_as, end_for}
-use Rattle.net_driver.specs.Ends.{StandsEnd, end_at, AreOfWorld, IsLiving, IsPlace}
-use Rattle.net_driver.specs.Serves.{Drive, Serves, IsSeated}
+use Rattle.net_driver.specs.Served.{Seat, Served, with_seat, heard, past_for, end_for}
+use Rattle.server_end.specs.Stands.{StandsEnd}
+use Rattle.net_driver.specs.Ends.{end_at, AreOfWorld, IsLiving, IsPlace}
+use Rattle.net_driver.specs.Serves.{Drive, Serves, SeatFits, IsSeated}
+use Rattle.net_driver.proofs.Fitting.{fits_turned}
 use Rattle.net_driver.proofs.Seats.{turns, turned_rising}
 use Rattle.net_driver.proofs.Placing.{living_is, elsewhere}
+use Rattle.net_driver.proofs.Hearing.{ignored, hears}
 use Rattle.net_driver.proofs.Leaving.{call_opens_none}
-
--- ---- a dead end hears nothing
-
-after_ended : (end : End) (past : Past) (event : Event) → has_ended past ≡ true → after_event end past event ≡ past
-after_ended end past (feed.Tick sight) e = rw e refl
-after_ended end past (feed.Got bytes) e = rw e refl
-after_ended end past (feed.Call a n args) e = rw e refl
-
-pub ignored : (table : Table) (t : Seat) (event : Event) → has_ended (past_for table t) ≡ true
-    → past_for table (heard event t) ≡ past_for table t
-ignored table t event e = go t.lost refl e
-  where
-    go : (b : Bool) → t.lost ≡ b → has_ended (past_as b (end_for table t) t.feed) ≡ true
-        → past_as t.lost (end_for table t) (event ∷ t.feed) ≡ past_as t.lost (end_for table t) t.feed
-    go true q e = rw q refl
-    go false q e = rw q (after_ended (end_for table t) (past_of (end_for table t) t.feed) event e)
-
--- a living end hears what the definitions say
-pub hears : (table : Table) (t : Seat) (event : Event) → has_ended (past_for table t) ≡ false
-    → past_for table (heard event t) ≡ after_event (end_for table t) (past_for table t) event
-hears table t event e = go t.lost refl e
-  where
-    go : (b : Bool) → t.lost ≡ b → has_ended (past_as b (end_for table t) t.feed) ≡ false
-        → past_as t.lost (end_for table t) (event ∷ t.feed)
-        ≡ after_event (end_for table t) (past_as t.lost (end_for table t) t.feed) event
-    go true q e = absurd (false≢true (sym e))
-    go false q e = rw q refl
 
 -- ---- the others stay, though the greatest number may have grown
 
@@ -93,14 +67,20 @@ pub heard_by : (d : Drive) (s : Served) (player raised : ℕ) (event : Event) (l
     → ((k : ℕ) (t : Seat) → t.number ≡ player → place_in d.chairs player ≡ Some (Living k)
     → IsPlace (table_in d.layout) s.edits s.samples d.greatest d.ends t (Living k)
     → (p : Place) × (p ≡ Living k) × IsPlace (table_in d.layout) s.edits s.samples raised later (heard event t) p)
+    → ((t : Seat) → t.number ≡ player → SeatFits (table_in d.layout) s.edits d.graves t
+    → SeatFits (table_in d.layout) s.edits d.graves (heard event t))
     → Serves (record d { ends = later; greatest = raised }) (with_seat (heard event) player s)
-heard_by d s player raised event later h only own = record {
+heard_by d s player raised event later h only own fit = record {
   world = h.world;
   layout = h.layout;
   graph = h.graph;
   changes = h.changes;
   from_one = h.from_one;
   there = h.there;
+  ticks = h.ticks;
+  sampled = h.sampled;
+  graves = h.graves;
+  fits = fits_turned (table_in d.layout) s.edits d.graves player (heard event) fit s.seats h.fits;
   seated = turns (table_in d.layout) s.edits s.samples d.greatest raised d.ends later player (heard event)
       (place_in d.chairs player)
       (other_stays d s player raised later h only) mine d.chairs s.seats refl h.rising h.seated;

@@ -15,17 +15,19 @@ use Rattle.value_codec.specs.Values.{arg_of}
 use Rattle.value_codec.specs.declared.args.Arg.{Arg as ArgValue}
 use Rattle.class_members.specs.declared.members.Call.{Call as CallValue}
 use Rattle.shadow_changes.specs.Samples.{Samples}
-use Rattle.net_driver.specs.declared.server_end.ServerEnd.{ServerEnd}
+use Rattle.server_end.specs.declared.server_end.ServerEnd.{ServerEnd}
 use Rattle.net_driver.specs.declared.chair.Place.{Place}
 use Rattle.net_driver.specs.declared.chair.Place.TheVariants.{Living}
 use Rattle.net_driver.specs.Chairs.{place_in, living_key}
-use Rattle.net_driver.specs.Calls.{IsCalled}
+use Rattle.server_end.specs.Calls.{IsCalled}
 use Rattle.net_driver.specs.Served.{Seat, Served, seat_of, with_seat, heard, past_for, end_for, answer_for}
-use Rattle.net_driver.specs.Ends.{StandsEnd, end_at, IsPlace}
+use Rattle.server_end.specs.Stands.{StandsEnd}
+use Rattle.net_driver.specs.Ends.{end_at, IsPlace}
 use Rattle.net_driver.specs.Serves.{Drive, Serves}
 use Rattle.net_driver.proofs.Placing.{for_place, living_is}
+use Rattle.net_driver.proofs.Fitting.{fits_call}
 use Rattle.net_driver.proofs.CallHeard.{heard_by, call_living}
-use Rattle.net_driver.proofs.Meaning.{living_called, IsFitting}
+use Rattle.net_driver.proofs.Meaning.{living_called, short_call, IsFitting}
 
 -- the call is known, and fits what the world has for its actor
 pub record IsReady (d : Drive) (s : Served) (player a n key : ℕ) (called : CallValue)
@@ -76,6 +78,8 @@ pub served : (d : Drive) (s : Served) (player a n key : ℕ) (called : CallValue
 served d s player a n key called args later r others does =
     heard_by d s player (d.greatest + 8192) (feed.Call a n (map arg_of args)) later r.serves
     (record { more = omega arith; others = λ k ne. others k (λ q. ne (r.key_is ∙ ap (λ (m : ℕ). Some m) (sym q))) }) own
+    (λ t nt fit. fits_call (table_in d.layout) s.edits d.graves t a n (map arg_of args) fit
+    (short_call d.layout s.edits d.graves t a n args fit r.tables r.fits))
   where
     at_key : (t : Seat) → IsPlace (table_in d.layout) s.edits s.samples d.greatest d.ends t (Living key)
         → IsPlace (table_in d.layout) s.edits s.samples (d.greatest + 8192) later

@@ -5,7 +5,7 @@ use Rattle.std.proofs.lemmas.Bool.{eqb-true, eqb-false}
 use Rattle.protocol_model.specs.Value.{Table}
 use Rattle.protocol_model.specs.World.{Edits}
 use Rattle.shadow_changes.specs.Samples.{Samples}
-use Rattle.net_driver.specs.declared.server_end.ServerEnd.{ServerEnd}
+use Rattle.server_end.specs.declared.server_end.ServerEnd.{ServerEnd}
 use Rattle.net_driver.specs.declared.chair.Chair.{Chair}
 use Rattle.net_driver.specs.declared.chair.Place.{Place}
 use Rattle.net_driver.specs.declared.chair.Place.TheVariants.{Dead}

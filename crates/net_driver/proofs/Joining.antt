@@ -1,5 +1,5 @@
 -- A player joins.
-use Rattle.std.proofs.Common.{◌≡◌, ◌≢◌, ℕ, suc, ◌<◌, ◌==◌, List, [], ◌∷◌, length, Bool, true, false, cond, Option, Some, None, option_map, refl, sym, ap, ◌∙◌, subst, arith, append-nil}
+use Rattle.std.proofs.Common.{◌≡◌, ◌≢◌, ℕ, suc, ◌<◌, ◌≤◌, ◌==◌, List, [], ◌∷◌, length, Bool, true, false, cond, Option, Some, None, option_map, refl, sym, ap, ◌∙◌, subst, arith, append-nil}
 use Rattle.std.specs.Prelude.{find, is_some, nat_lt, slice_index_or}
 use Rattle.protocol_model.specs.declared.Version.{Version}
 use Rattle.protocol_model.specs.Limits.{connection_limit}
@@ -7,7 +7,7 @@ use Rattle.protocol_model.specs.Search.{insert_in_order}
 use Rattle.connection_model.specs.Feed.{End}
 use Rattle.class_layout.specs.Tables.{table_in}
 use Rattle.sender_steps.specs.Stands.{Stands}
-use Rattle.net_driver.specs.declared.server_end.ServerEnd.{ServerEnd}
+use Rattle.server_end.specs.declared.server_end.ServerEnd.{ServerEnd}
 use Rattle.net_driver.specs.declared.chair.Chair.{Chair}
 use Rattle.net_driver.specs.declared.chair.Place.{Place}
 use Rattle.net_driver.specs.declared.chair.Place.TheVariants.{Living, Dead}
@@ -15,6 +15,7 @@ use Rattle.net_driver.specs.Chairs.{sits_before, place_in}
 use Rattle.net_driver.specs.Served.{Seat, Served, has_joined, new_seat, with_joined, end_for}
 use Rattle.net_driver.specs.Ends.{end_at, IsLiving, IsPlace}
 use Rattle.net_driver.specs.Serves.{Drive, Serves, IsSeated, AreSeated}
+use Rattle.net_driver.proofs.Fitting.{fits_joined, fits_new}
 use Rattle.net_driver.proofs.Seats.{count, found, AreFound, still, one_more, joined_rising}
 
 -- the player has a chair exactly where it joined
@@ -61,15 +62,20 @@ pub seated : (d : Drive) (s : Served) (player budget : ℕ) (version : Version) 
     → IsTaken d.ends later key e → e.player ≡ player → e.table.made.count ≡ 0
     → ((end : End) → end.budget ≡ budget → end.version ≡ version → Stands e.sender e.link e.table end [] [])
     → chairs ≡ insert_in_order sits_before (record { player = player; place = Living key }) d.chairs
-    → Serves d s → has_joined s player ≡ false → length s.seats < connection_limit
+    → 1 ≤ budget → Serves d s → has_joined s player ≡ false → length s.seats < connection_limit
     → Serves (record d { ends = later; chairs = chairs }) (with_joined (new_seat player budget version) s)
-seated d s player budget version key e later chairs taken named none stands put h fresh few = record {
+seated d s player budget version key e later chairs taken named none stands put least h fresh few = record {
   world = h.world;
   layout = h.layout;
   graph = h.graph;
   changes = h.changes;
   from_one = h.from_one;
   there = h.there;
+  ticks = h.ticks;
+  sampled = h.sampled;
+  graves = h.graves;
+  fits = fits_joined (table_in d.layout) s.edits d.graves new s.seats
+      (fits_new (table_in d.layout) s.edits d.graves player budget version least) h.fits;
   seated = subst
       (λ (cs : List Chair). AreSeated (table_in d.layout) s.edits s.samples d.greatest later cs
       (with_joined new s).seats) (sym put)

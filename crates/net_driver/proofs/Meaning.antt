@@ -9,7 +9,7 @@ use Rattle.protocol_model.specs.Limits.{argument_limit, part_bits, payload_bits}
 use Rattle.protocol_model.specs.Side.{AtServer}
 use Rattle.protocol_model.specs.Value.{Table, Class, Call, Arg, call_at, goes_up, args_fit}
 use Rattle.protocol_model.specs.World.{Edits, Spawned, class_of, class_in, no_class, spawn_of}
-use Rattle.protocol_model.specs.Payload.{Message, Opens, Closes, Updates, Calls, Gone}
+use Rattle.protocol_model.specs.Payload.{Message, Opens, Closes, Updates, Calls, Gone, message_bits}
 use Rattle.table_model.specs.Rules.{Entry, args_limit, largest_args}
 use Rattle.table_model.specs.Facts.{IsTable, is_call}
 use Rattle.payload_laws.specs.Limits.{HasLimits}
@@ -25,10 +25,15 @@ use Rattle.value_codec.specs.Values.{arg_of, args_are_of, arguments_fit}
 use Rattle.value_codec.specs.declared.args.Arg.{Arg as ArgValue}
 use Rattle.class_members.specs.declared.members.Call.{Call as CallValue}
 use Rattle.shadow_changes.specs.Samples.{Samples}
-use Rattle.net_driver.specs.declared.server_end.ServerEnd.{ServerEnd}
-use Rattle.net_driver.specs.Served.{Seat, end_for, past_for}
+use Rattle.server_end.specs.declared.server_end.ServerEnd.{ServerEnd}
+use Rattle.net_driver.specs.Served.{Seat, end_for, past_for, past_as}
+use Rattle.net_driver.specs.Serves.{SeatFits}
+use Rattle.driver_laws.specs.Feeds.{IsShort, IsOfWorld}
+use Rattle.driver_laws.proofs.Shown.{opened_so}
+use Rattle.driver_sights.specs.declared.graves.Grave.{Grave}
 use Rattle.net_driver.specs.Ends.{IsLiving}
-use Rattle.net_driver.specs.Calls.{IsCalled, IsMade, call_size}
+use Rattle.server_end.specs.Calls.{IsCalled, call_size}
+use Rattle.net_driver.specs.Calls.{IsMade}
 
 -- ---- an opened actor was opened as some class
 
@@ -147,7 +152,7 @@ limits_from entries before (x ∷ rest) zero is e = limits_in entries before x r
 limits_from entries before (x ∷ rest) (suc k) is e =
     limits_from entries (before ++ x ∷ []) rest k is (e ∙ sym (append_assoc before (x ∷ []) rest))
 
-world_limits : (layout : Layout) (edits : Edits) (a : ℕ) → IsTable (entries_in layout)
+pub world_limits : (layout : Layout) (edits : Edits) (a : ℕ) → IsTable (entries_in layout)
     → HasLimits (class_of (table_in layout) edits a)
 world_limits layout edits a is = go (spawn_of edits a)
   where
@@ -239,3 +244,38 @@ living_called layout edits samples greatest e t a n called args h is m found few
         → call_size a n called args ≤ part_bits
     loose true r h = absurd (false≢true (sym r))
     loose false r h = omega arith
+
+-- an unreliable call that fits its actor's class has room in one bunch
+pub short_call : (layout : Layout) (edits : Edits) (graves : List Grave) (t : Seat) (a n : ℕ) (args : List ArgValue)
+    → SeatFits (table_in layout) edits graves t → IsTable (entries_in layout)
+    → IsFitting (table_in layout) edits a n args
+    → IsShort (past_for (table_in layout) t) a n (map arg_of args)
+short_call layout edits graves t a n args h is m opened call meant loose =
+    let class = opened_has_class (past_for (table_in layout) t) a opened in
+    let world = of_world t.lost refl class.0 class.1 in
+    let there : call_at class.0 n ≡ Some m.call = ap (λ (c : Class). call_at c n) world.1 ∙ m.there in
+    let same : m.call ≡ call =
+    same_Some m.call call (sym (is_meant (past_for (table_in layout) t) a n (map arg_of args) class.0 m.call class.1 there
+    m.way fits) ∙ meant) in
+    subst (λ (k : Call). length (message_bits (Calls a n k (map arg_of args))) ≤ part_bits) same
+    (few m.call.reliable (ap (λ (k : Call). k.reliable) same ∙ loose) bits)
+  where
+    fits : args_fit m.call.args (map arg_of args) ≡ true
+    fits = (and_parts (args_are_of m.call.args args) _ m.fit).1
+
+    limits : HasLimits (class_of (table_in layout) edits a)
+    limits = world_limits layout edits a is
+
+    bits : length (message_bits (Calls a n m.call (map arg_of args))) ≤ 49 + args_limit m.call.reliable
+    bits = call_most (class_of (table_in layout) edits a) a n m.call (map arg_of args) limits m.there fits
+
+    few : (b : Bool) → b ≡ false → length (message_bits (Calls a n m.call (map arg_of args))) ≤ 49 + args_limit b
+        → length (message_bits (Calls a n m.call (map arg_of args))) ≤ part_bits
+    few true r h = absurd (false≢true (sym r))
+    few false r h = omega arith
+
+    of_world : (b : Bool) → t.lost ≡ b → (class : Class) → opened_class (past_for (table_in layout) t) a ≡ Some class
+        → IsOfWorld (table_in layout) edits a class
+    of_world true q class e = absurd (none-some class (sym (ap (λ (b : Bool). opened_class (past_as b (end_for (table_in layout) t) t.feed) a) q) ∙ e))
+    of_world false q class e = opened_so (IsOfWorld (table_in layout) edits) (end_for (table_in layout) t) t.feed h.shown a class
+        (sym (ap (λ (b : Bool). opened_class (past_as b (end_for (table_in layout) t) t.feed) a) q) ∙ e)

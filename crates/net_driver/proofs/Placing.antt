@@ -7,7 +7,7 @@ use Rattle.std.proofs.lemmas.Bool.Decides.{nat_tests}
 use Rattle.std.proofs.lemmas.List.{length-map}
 use Rattle.connection_model.specs.Feed.{has_ended}
 use Rattle.class_layout.specs.Tables.{table_in}
-use Rattle.net_driver.specs.declared.server_end.ServerEnd.{ServerEnd}
+use Rattle.server_end.specs.declared.server_end.ServerEnd.{ServerEnd}
 use Rattle.net_driver.specs.declared.chair.Chair.{Chair}
 use Rattle.net_driver.specs.declared.chair.Place.{Place}
 use Rattle.net_driver.specs.declared.chair.Place.TheVariants.{Living, Dead}
@@ -15,6 +15,7 @@ use Rattle.net_driver.specs.Chairs.{dead_for, place_in, living_key}
 use Rattle.net_driver.specs.Served.{Seat, Served, seat_of, with_seat, lost_now, past_for, top_for}
 use Rattle.net_driver.specs.Ends.{end_at, IsPlace}
 use Rattle.net_driver.specs.Serves.{Drive, Serves, IsSeated}
+use Rattle.net_driver.proofs.Fitting.{fits_turned, fits_lost}
 use Rattle.net_driver.proofs.Seats.{found, AreFound, again, turned_rising}
 
 -- the seat of a player whose end is at this place
@@ -111,6 +112,10 @@ died d s player later h stay = record {
   changes = h.changes;
   from_one = h.from_one;
   there = h.there;
+  ticks = h.ticks;
+  sampled = h.sampled;
+  graves = h.graves;
+  fits = fits_turned (table_in d.layout) s.edits d.graves player lost_now (λ t nt fit. fits_lost (table_in d.layout) s.edits d.graves t fit) s.seats h.fits;
   seated = again (table_in d.layout) s.edits s.edits s.samples s.samples d.greatest d.greatest d.ends later
       (dead_for player 0)
       (λ (t : Seat). if t.number == player then lost_now t else t) each d.chairs s.seats h.seated;

@@ -6,7 +6,7 @@ use Rattle.protocol_model.specs.Value.{Table}
 use Rattle.protocol_model.specs.World.{Edits}
 use Rattle.protocol_model.specs.Search.{insert_in_order}
 use Rattle.shadow_changes.specs.Samples.{Samples}
-use Rattle.net_driver.specs.declared.server_end.ServerEnd.{ServerEnd}
+use Rattle.server_end.specs.declared.server_end.ServerEnd.{ServerEnd}
 use Rattle.net_driver.specs.declared.chair.Chair.{Chair}
 use Rattle.net_driver.specs.Chairs.{sits_before}
 use Rattle.net_driver.specs.Served.{Seat}

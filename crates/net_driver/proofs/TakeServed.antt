@@ -1,23 +1,19 @@
 -- A datagram that was taken at the end under a key: the driver stands for it, and the answers are the definitions'.
-use Rattle.std.proofs.Common.{◌≡◌, ◌≢◌, ℕ, ◌*◌, ◌≤◌, ◌==◌, List, [], ◌∷◌, map, length, Bool, true, false, Option, Some, None, refl, sym, ap, ◌∙◌, subst, arith, if◌then◌else◌}
+use Rattle.std.proofs.Common.{◌≡◌, ◌≢◌, ℕ, ◌==◌, List, [], map, length, Bool, true, false, Option, Some, None, refl, sym, ap, ◌∙◌, subst, arith, if◌then◌else◌}
 use Rattle.std.specs.Prelude.{take, reverse, ◌-◌}
-use Rattle.std.proofs.lemmas.Option.{same_Some, none-some}
+use Rattle.std.proofs.lemmas.Option.{same_Some}
 use Rattle.std.proofs.lemmas.List.{length-map}
-use Rattle.protocol_model.specs.Side.{AtServer}
-use Rattle.protocol_model.specs.Value.{Table, Class}
+use Rattle.protocol_model.specs.Value.{Table}
 use Rattle.protocol_model.specs.World.{Edits, Spawned, spawn_of, class_in}
-use Rattle.protocol_model.specs.declared.Verdict.{Verdict}
 use Rattle.protocol_model.specs.declared.Verdict.TheVariants as verdicts
 use Rattle.connection_model.specs.Copies.{delivered_of}
 use Rattle.connection_model.specs.Feed.{End, Event, Past, has_ended}
 use Rattle.connection_model.specs.Feed as feed
 use Rattle.connection_model.specs.Fates.{top_of}
 use Rattle.connection_model.specs.Handed.{handed_by, server_verdict}
-use Rattle.connection_model.specs.Past.{past_of}
-use Rattle.connection_model.specs.Verdict.{verdict_of, after_got}
+use Rattle.connection_model.specs.Verdict.{after_got}
 use Rattle.class_layout.specs.Tables.{Layout, table_in}
-use Rattle.handovers.specs.Handovers.{Handover, handover_of, handovers}
-use Rattle.value_codec.specs.declared.handed.Handed.{Handed}
+use Rattle.handovers.specs.Handovers.{handover_of, handovers}
 use Rattle.sender_laws.proofs.Views.{class_alike}
 use Rattle.hearing_laws.specs.Plain.{IsCalm}
 use Rattle.hearing_laws.proofs.Acting.{got_acts}
@@ -25,17 +21,21 @@ use Rattle.hearing_laws.proofs.Calm.{feed_calm}
 use Rattle.shadow_changes.specs.Samples.{Samples}
 use Rattle.server_hearing.specs.Calls.{IsSpawnedAs, AreSpawned}
 use Rattle.server_hearing.specs.declared.datagrams.Heard.{Heard}
-use Rattle.net_driver.specs.declared.server_end.ServerEnd.{ServerEnd}
+use Rattle.server_end.specs.declared.server_end.ServerEnd.{ServerEnd}
 use Rattle.net_driver.specs.declared.chair.Chair.{Chair}
 use Rattle.net_driver.specs.declared.chair.Place.{Place}
 use Rattle.net_driver.specs.declared.chair.Place.TheVariants.{Living, Dead}
 use Rattle.net_driver.specs.Chairs.{place_in, living_key, dead_for}
-use Rattle.net_driver.specs.Served.{Seat, Served, seat_of, with_seat, heard, past_for, past_as, end_for, top_for}
-use Rattle.net_driver.specs.Ends.{StandsEnd, AreOfWorld, end_at, IsLiving, IsPlace}
+use Rattle.net_driver.specs.Served.{Seat, Served, seat_of, with_seat, heard, past_for, past_as, end_for}
+use Rattle.server_end.specs.Stands.{StandsEnd}
+use Rattle.net_driver.specs.Ends.{AreOfWorld, end_at, IsLiving, IsPlace}
 use Rattle.net_driver.specs.Serves.{Drive, Serves, IsSeated, AreThere}
-use Rattle.net_driver.specs.Hearing.{verdict_for, handovers_for, MayHearEnd, IsHeard}
+use Rattle.server_end.specs.Hearing.{MayHearEnd, IsHeard}
+use Rattle.net_driver.specs.Hearing.{verdict_for, handovers_for}
 use Rattle.net_driver.proofs.Placing.{for_place, living_is, dead_is}
-use Rattle.net_driver.proofs.CallHeard.{IsOnly, heard_by, other_stays, hears}
+use Rattle.net_driver.proofs.CallHeard.{IsOnly, heard_by, other_stays}
+use Rattle.net_driver.proofs.Fitting.{fits_turned, fits_got}
+use Rattle.net_driver.proofs.Hearing.{hears}
 use Rattle.net_driver.proofs.Ending.{closes}
 use Rattle.net_driver.proofs.Seats.{turned_rising}
 
@@ -128,6 +128,7 @@ pub got_open : (d : Drive) (s : Served) (player key : ℕ) (bytes : List ℕ) (h
 got_open d s player key bytes h later serves key_is alone others takes =
     heard_by d s player d.greatest (feed.Got bytes) later serves
     (record { more = omega arith; others = λ k ne. others k (λ q. ne (key_is ∙ ap (λ (m : ℕ). Some m) (sym q))) }) own
+    (λ t nt fit. fits_got (table_in d.layout) s.edits d.graves t bytes fit)
   where
     at_key : (t : Seat) → IsPlace (table_in d.layout) s.edits s.samples d.greatest d.ends t (Living key)
         → IsPlace (table_in d.layout) s.edits s.samples d.greatest later (heard (feed.Got bytes) t) (Living key)
@@ -166,6 +167,11 @@ got_closed d s player key top bytes h between later serves key_is closed others 
   changes = serves.changes;
   from_one = serves.from_one;
   there = serves.there;
+  ticks = serves.ticks;
+  sampled = serves.sampled;
+  graves = serves.graves;
+  fits = fits_turned (table_in d.layout) s.edits d.graves player (heard (feed.Got bytes))
+      (λ t nt fit. fits_got (table_in d.layout) s.edits d.graves t bytes fit) s.seats serves.fits;
   seated = closes (table_in d.layout) s.edits s.samples d.greatest d.ends later player top (heard (feed.Got bytes))
       (other_stays d s player d.greatest later serves only) (Some (Living key)) own d.chairs s.seats
       (living_is (place_in d.chairs player) key key_is) serves.rising serves.seated;

@@ -1,5 +1,5 @@
 -- Each actor that was spawned has a class of the table.
-use Rattle.std.proofs.Common.{◌≡◌, ℕ, ◌+◌, ◌*◌, ◌<◌, ◌==◌, ◌∷◌, length, Bool, true, false, cond, not, ℤ, Option, Some, None, refl, sym, ap, ◌∙◌, subst, if◌then◌else◌}
+use Rattle.std.proofs.Common.{◌≡◌, ℕ, ◌+◌, ◌*◌, ◌<◌, ◌==◌, ◌∷◌, length, Bool, true, false, cond, not, ℤ, Option, Some, None, refl, sym, subst, if◌then◌else◌}
 use Rattle.std.proofs.lemmas.Bool.{ltb-true}
 use Rattle.std.proofs.lemmas.Option.{none-some, same_Some}
 use Rattle.protocol_model.specs.Search.{or_else}
@@ -26,16 +26,20 @@ in_range table edits e h =
     by_tests (names_living edits (named_actor (edit_of e))) (is_in_range table edits (edit_of e))
     (is_past_last edits (edit_of e)) (first_none (refusal_of table edits (edit_of e)) _ h)
 
+there_spawned : (table : Table) (edits : Edits) (class : ℕ) (x y : ℤ) → AreThere table edits → class < length table
+    → AreThere table (Spawn class x y ∷ edits)
+there_spawned table edits class x y h lt a spawned e = by (a == 2 * (spawn_count edits + 1)) e
+  where
+    by : (b : Bool) → cond b (Some (record { class = class; x = x; y = y })) (spawn_of edits a) ≡ Some spawned
+        → spawned.class < length table
+    by true e = subst (λ (s : Spawned). s.class < length table)
+        (same_Some (record { class = class; x = x; y = y }) spawned e) lt
+    by false e = h a spawned e
+
 there_more : (table : Table) (edits : Edits) (edit : Edit) → AreThere table edits
     → is_in_range table edits edit ≡ true → AreThere table (edit ∷ edits)
-there_more table edits (Spawn class x y) h r = λ a spawned e. by a spawned (a == 2 * (spawn_count edits + 1)) e
-  where
-    by : (a : ℕ) (spawned : Spawned) (b : Bool)
-        → cond b (Some (record { class = class; x = x; y = y })) (spawn_of edits a) ≡ Some spawned
-        → spawned.class < length table
-    by a spawned true e = subst (λ (s : Spawned). s.class < length table)
-        (same_Some (record { class = class; x = x; y = y }) spawned e) (ltb-true class (length table) r)
-    by a spawned false e = h a spawned e
+there_more table edits (Spawn class x y) h r =
+    there_spawned table edits class x y h (ltb-true class (length table) r)
 there_more table edits (Destroy b) h r = h
 there_more table edits (Set b k v) h r = h
 there_more table edits (Own b p) h r = h

@@ -2,18 +2,15 @@
 use Rattle.std.specs.Prelude.{◌≡◌, ◌≢◌, ℕ, ◌*◌, ◌≤◌, List, Option, Some, None, true, false, slice_index_or}
 use Rattle.protocol_model.specs.Value.{Table, Class}
 use Rattle.protocol_model.specs.World.{Edits, spawn_of, class_of}
-use Rattle.connection_model.specs.Feed.{End, Past, has_ended}
+use Rattle.connection_model.specs.Feed.{Past, has_ended}
 use Rattle.connection_model.specs.State.{opened_class}
 use Rattle.shadow_changes.specs.Samples.{Samples}
-use Rattle.sender_steps.specs.Stands.{Stands, Extends}
-use Rattle.net_driver.specs.declared.server_end.ServerEnd.{ServerEnd}
+use Rattle.sender_steps.specs.Stands.{Extends}
+use Rattle.server_end.specs.Stands.{StandsEnd}
+use Rattle.server_end.specs.declared.server_end.ServerEnd.{ServerEnd}
 use Rattle.net_driver.specs.declared.chair.Place.{Place}
 use Rattle.net_driver.specs.declared.chair.Place.TheVariants.{Living, Dead}
 use Rattle.net_driver.specs.Served.{Seat, end_for, past_for, top_for}
-
--- the end's parts stand for one past
-abbrev pub StandsEnd : ServerEnd → End → Past → Samples → Type 0
-StandsEnd e end past samples = Stands e.sender e.link e.table end past samples
 
 -- the end under a key
 abbrev pub end_at : List (Option ServerEnd) → (key : ℕ) → Option ServerEnd

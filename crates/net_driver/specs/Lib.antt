@@ -4,4 +4,6 @@ pub mod Chairs
 pub mod Calls
 pub mod Serves
 pub mod Hearing
-pub mod Trials
+pub mod Ticks
+pub mod Sights
+pub mod Burying

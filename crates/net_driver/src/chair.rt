@@ -1,5 +1,5 @@
 // The players who joined, and where their ends are.
-ghost use Rattle.std.specs.Prelude.{◌≡◌, ◌==◌, OnOk, OnErr, nat_le, map};
+ghost use Rattle.std.specs.Prelude.{◌≡◌, ◌==◌, OnOk, OnErr, nat_le, map, slice_get, Some};
 ghost use Rattle.std.specs.List.{position};
 ghost use Rattle.protocol_model.specs.Search.{insert_in_order};
 ghost use Rattle.net_driver.specs.declared.chair.Chair.{Chair as ChairSpec};
@@ -37,6 +37,23 @@ pub(crate) fn key_of(chairs: &[Chair], player: Player) -> Option<usize>
     match place_of(chairs, player) {
         Some(Place::Living(key)) => Some(key),
         _ => None,
+    }
+}
+
+/// The chair at a place, counted from 0.
+pub(crate) fn chair_at(chairs: &[Chair], i: usize) -> Option<Chair>
+    ensures { result ≡ slice_get chairs.now i }
+{
+    chairs.get(i).copied()
+}
+
+/// The key of an end that is alive.
+pub(crate) fn living(place: Place) -> Option<usize>
+    ensures { result ≡ living_key (Some place) }
+{
+    match place {
+        Place::Living(key) => Some(key),
+        Place::Dead(_) => None,
     }
 }
 

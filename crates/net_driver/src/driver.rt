@@ -9,18 +9,21 @@ ghost use Rattle.world_table.specs.Stands.{Stands as StandsWorld};
 ghost use Rattle.rep_graph.specs.Standings.{look_before};
 ghost use Rattle.rep_graph.specs.Graph.{Stands as StandsGraph};
 ghost use Rattle.shadow_changes.specs.Samples.{Keeps as KeepsSamples};
+ghost use Rattle.driver_sights.specs.Graves.{AreGraves};
+ghost use Rattle.net_driver.specs.Burying.{Buries, destroyed_by, IsTaken, Follows};
 ghost use Rattle.net_driver.specs.Served.{Served, first_served, has_joined, with_joined, new_seat};
 ghost use Rattle.net_driver.specs.Serves.{Serves, IsSpent};
 
 use crate::chair::{Chair, Place, add_chair, place_of};
 use crate::refusal::JoinRefusal;
-use crate::server_end::ServerEnd;
 use bit_io::Memory;
 use class_layout::Classes;
+use driver_sights::{Grave, bury};
 use net_core::{Guid, Player, Steps};
 use protocol_model::Version;
 use protocol_model::limits::CONNECTION_LIMIT;
 use rep_graph::RepGraph;
+use server_end::ServerEnd;
 use shadow_changes::Shadows;
 use slab::Slab;
 use std::alloc::Global;
@@ -28,8 +31,14 @@ use std::marker::{Brand, Model};
 use std::sync::ledger::{Blank, Ledger};
 use world_table::{Edit, EditRefusal, Look, World};
 
+mod forgetting;
 mod hearing;
+mod settling;
 mod taking;
+mod ticking;
+
+/// How far is counted.
+const GREATEST: u64 = 1 << 59;
 
 /// A server: the world, and the end of each player's connection.
 #[derive(Drop)]
@@ -39,8 +48,10 @@ pub struct Driver<'a> {
     world: World<'a>,
     graph: RepGraph,
     changes: Shadows,
+    graves: Vec<Grave>,
     ends: Slab<ServerEnd>,
     chairs: Vec<Chair>,
+    ticks: u64,
     greatest: u64,
     spent: bool,
 }
@@ -55,8 +66,10 @@ impl<'a> Model for Driver<'a> {
       world = d.world;
       graph = d.graph;
       changes = d.changes;
+      graves = d.graves.items;
       ends = d.ends.slots;
       chairs = d.chairs.items;
+      ticks = d.ticks;
       greatest = d.greatest;
       spent = d.spent;
     } };
@@ -76,8 +89,10 @@ impl<'a> Driver<'a> {
             world: World::new(alloc, classes),
             graph,
             changes: Shadows::new(alloc),
+            graves: Vec::new(alloc),
             ends: Slab::new(alloc),
             chairs: Vec::new(alloc),
+            ticks: 0,
             greatest: 0,
             spent: false,
         })
@@ -164,10 +179,22 @@ impl<'a> Driver<'a> {
     {
         let before = named_look::<Brand>(&self.world, &e, Blank::new(1));
         let spawned = self.world.apply(*&e)?;
-        match self.graph.apply(e, before, &self.world) {
+        match self.follow(e, before) {
             Ok(()) => Ok(spawned),
             Err(_) => Err(EditRefusal::Memory),
         }
+    }
+
+    /// The graph and the graves follow an edit that the world took.
+    fn follow(&mut self, e: Edit, before: Option<Look>) -> Result<(), Memory>
+        ensures follows { OnOk result ((edits : Edits) → IsTaken self.old e before edits
+            → Follows self.old self.new (edit_of e) edits) }
+        ensures rest { self.new
+            ≡ record self.old { graph = self.new.graph; graves = self.new.graves } }
+    {
+        self.graph.apply(e, before, &self.world)?;
+        bury_named(&mut self.graves, &e, &before, self.classes)?;
+        Ok(())
     }
 
     /// A player joins, with a budget of 1 to 1,000,000 bits a tick. `Joined` exactly where the
@@ -241,6 +268,61 @@ impl<'a> Driver<'a> {
             Err(_) => return Err(Memory),
         };
         add_chair(&mut self.chairs, player, Place::Living(key))
+    }
+}
+
+/// Nothing ticks or calls at so many ticks, or at this for twice the bunches of an end.
+fn is_past(count: u64) -> bool
+    ensures { result ≡ nat_le (2 ^ 59) count }
+{
+    count >= GREATEST
+}
+
+/// Notes the actor that an edit destroys, which stood so before.
+fn bury_named(
+    graves: &mut Vec<Grave>,
+    e: &Edit,
+    before: &Option<Look>,
+    classes: &Classes,
+) -> Result<(), Memory>
+    ensures { OnOk result ((edits : Edits)
+        → before.now ≡ look_before (table_in classes.now) edits e.now
+        → AreGraves classes.now edits graves.old.items
+        → Buries classes.now (edit_of e.now) edits graves.old.items graves.new.items) }
+{
+    let Some(actor) = destroyed_in(e) else {
+        return Ok(());
+    };
+    let Some(look) = before else {
+        return Err(Memory);
+    };
+    if !look.alive {
+        return Err(Memory);
+    }
+    let Some(_class) = classes.class(look.class) else {
+        return Err(Memory);
+    };
+    bury(graves, actor, look.class)?;
+    Ok(())
+}
+
+/// The actor that an edit destroys.
+fn destroyed_in(e: &Edit) -> Option<Guid>
+    ensures { result ≡ destroyed_by (edit_of e.now) }
+{
+    match *e {
+        Edit::Destroy { actor } => Some(actor),
+        Edit::Spawn { .. }
+        | Edit::Set { .. }
+        | Edit::Own { .. }
+        | Edit::View { .. }
+        | Edit::Add { .. }
+        | Edit::Dormant { .. }
+        | Edit::Wake { .. }
+        | Edit::Flush { .. }
+        | Edit::Switch { .. }
+        | Edit::Team { .. }
+        | Edit::Give { .. } => None,
     }
 }
 

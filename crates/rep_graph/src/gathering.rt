@@ -77,7 +77,7 @@ fn keep_relevant<L: Ledger>(
 }
 
 /// The actor is relevant to the viewer's player. It takes one step.
-fn is_relevant<L: Ledger>(
+pub(crate) fn is_relevant<L: Ledger>(
     world: &World<'_>,
     viewer: &Viewer,
     actor: Guid,

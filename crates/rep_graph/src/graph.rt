@@ -11,11 +11,11 @@ ghost use Rattle.world_table.specs.Stands.{Stands as WorldStands};
 ghost use Rattle.rep_graph.specs.Spots.{rows};
 ghost use Rattle.rep_graph.specs.Graph.{Stands, Holds, IsTurn};
 
-use crate::gathering::{relevant_of, viewer_of};
+use crate::gathering::{is_relevant, relevant_of, viewer_of};
 use crate::nodes::Nodes;
 use graph_model::relevant_actors_are_listed;
 use graph_nodes::AnyNode;
-use net_core::{GuidList, Memory, Player, Steps};
+use net_core::{Guid, GuidList, Memory, Player, Steps};
 use std::alloc::Global;
 use std::marker::Model;
 use std::sync::ledger::Ledger;
@@ -68,6 +68,21 @@ impl RepGraph {
         self.nodes.turn(&e, &before, world)?;
         self.spent = false;
         Ok(())
+    }
+
+    /// The actor is relevant to a player in this world. It takes one step, and asks no node.
+    pub fn is_relevant<L: Ledger>(
+        player: Player,
+        actor: Guid,
+        world: &World<'_>,
+        steps: &mut Steps<L>,
+    ) -> bool
+        ensures relevant { (edits : Edits) → WorldStands world.now edits
+            → result ≡ is_relevant (table_in world.now.layout) edits player actor }
+        ensures step { steps.new ≡ steps.old + 1 }
+    {
+        let viewer = viewer_of(player, world);
+        is_relevant(world, &viewer, actor, steps)
     }
 
     /// The actors that are relevant to a player in the world for which the graph stands, ascending.

@@ -1,3 +1,4 @@
-pub mod FirstPath
 pub mod Kept
-pub mod Turns
+pub mod Stands
+pub mod Lines
+pub mod May

@@ -1,18 +1,35 @@
-// The replay of a script's lines: one player, one Pawn, and the packets between a server and a client.
+// The replay of a script's lines: a server, its players' clients, and every packet that any of them
+// sent.
 //
-// It stands on `packet_codec` and `pawn_open` for packets and the open of a Pawn, on `bit_io` for
-// numbers modulo 16,384, and on `script_text` for lines and events. It promises that each line tells
-// exactly what the definition of the first path says: the open is sent in the first tick in which the
-// Pawn is near, an empty packet goes after each eight ticks since, and the client takes a packet
-// whose number is above those taken. It reads no script, prints nothing, and sends no update of what
-// changed after the open.
+//     line -- edit, join, tick, multicast --> server --.
+//      |                                               |-- events --> transcript
+//      '-- a player's: deliver, call, ask --> place ---'
+//                                             client | packets down, up
+//
+// A program replays the lines of a script one after another, and tells what each does:
+//
+//     let mut replay = Replay::new(alloc, &classes)?;
+//     for line in lines.iter() {
+//         for event in replay.step(line)?.iter() {
+//             print(alloc, &mut transcript, &classes, event)?;
+//         }
+//     }
+//
+// It stands on `net_driver` for the server, on `replay_places` for a player's client and packets, and
+// on `script_lines` for lines and events. It promises that each line that may follow those before it
+// does and tells exactly what the story of the lines says (`Stands`, `after_line`), whoever else
+// plays; after want of memory each line is answered so. A line's work doesn't grow with the lines
+// behind it. It reads no script and prints nothing.
 #![tactic(auto)]
 
-mod client;
+mod both;
+mod joining;
 pub mod laws;
 mod replay;
 mod server;
-#[cfg(test)]
-mod tests;
+mod telling;
 
-pub use replay::{EventList, Replay};
+pub use class_layout::Classes;
+pub use net_core::{Memory, Player};
+pub use replay::Replay;
+pub use script_lines::{Event, EventList, Line};

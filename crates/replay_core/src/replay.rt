@@ -1,221 +1,273 @@
 // The replay of lines, one after another.
-ghost use Rattle.std.specs.Prelude.{◌≡◌, ◌≤◌, ◌<◌, ◌+◌, ◌∷◌, [], ◌++◌, List, map, Option, Some, None, IfOk, OnOk, IsTrue, pos};
+ghost use Rattle.std.specs.Prelude.{◌≡◌, ◌⊎◌, ◌<◌, ◌≤◌, ◌^◌, ◌∷◌, ◌==◌, ◌++◌, [], map, option_map, Some, None, IfOk, OnOk, OnErr, IsErr, length, true, false};
+ghost use Rattle.std.specs.Option.{option_copied};
+ghost use Rattle.std.specs.List.{position};
 ghost use Rattle.protocol_model.specs.Side.{AtClient};
-ghost use Rattle.protocol_model.specs.World.{Spawn, Set};
-ghost use Rattle.script_model.specs.Lines as story;
-ghost use Rattle.script_model.specs.Reports.{Joined, Actor};
-ghost use Rattle.script_text.specs.LineOf.{line_of};
-ghost use Rattle.script_text.specs.ReportOf.{report_of};
-ghost use Rattle.replay_core.specs.FirstPath.{reports_of, may_follow};
-ghost use Rattle.replay_core.specs.Kept.{Stands};
-ghost use Rattle.replay_core.specs.Turns.{copy_report, copies_told, with_health};
+ghost use Rattle.protocol_model.specs.Limits.{player_limit, budget_limit};
+ghost use Rattle.script_model.specs.Lines as lines;
+ghost use Rattle.replication_model.specs.Story.{Story, Player as PlayerStory, first_story, after_line, past_at};
+ghost use Rattle.class_layout.specs.Tables.{table_in};
+ghost use Rattle.value_codec.specs.Values.{arg_of};
+ghost use Rattle.world_table.specs.Answers.{edit_of};
+ghost use Rattle.actor_copies.specs.Copies.{copies_of, copy_value_of};
+ghost use Rattle.net_driver.specs.Calls.{IsMade};
+ghost use Rattle.script_lines.specs.LineOf.{line_of};
+ghost use Rattle.script_lines.specs.ReportOf.{report_of};
+ghost use Rattle.replay_places.specs.declared.place.Place.{Place as PlaceSpec};
+ghost use Rattle.replay_core.specs.Stands.{Stands, IsSpent, IsThere, player_in};
+ghost use Rattle.replay_core.specs.Lines.{line_player};
+ghost use Rattle.following_laws.specs.Following.{MayJoin};
+ghost use Rattle.replay_core.specs.May.{May, MayDo};
 
-use crate::client::Client;
-use crate::server::Server;
-use bit_io::Memory;
-use net_core::{Guid, Items, Player, Text};
-use pawn_open::Pawn;
-use protocol_laws::packets::packet_is_read_back;
-use script_text::{Delivery, Event, Line, Named, NamedList};
+use crate::both::do_line;
+use crate::joining::add_place;
+use crate::server::{call_each, keep_all, tick};
+use crate::telling::{player_of, tell_actor};
+use actor_copies::CopyList;
+use class_layout::{Arg, Classes};
+use net_core::{Guid, Items, Memory, Player};
+use net_driver::Driver;
+use protocol_model::Version;
+use replay_places::Place;
+use script_lines::{Event, EventList, Line};
 use std::alloc::Global;
-use std::marker::Model;
+use std::marker::{Brand, Model};
+use std::sync::ledger::Blank;
+use world_table::Edit;
 
-/// The health of a Pawn that was just spawned.
-const FULL_HEALTH: u8 = 100;
-
-/// The guid of the first actor.
-const FIRST_ACTOR: Guid = Guid(2);
-
-/// What a line tells, in the order in which it is told.
-pub type EventList = Items<Event>;
-
-/// A server and its player's client, after some lines.
+/// A server and its players' clients, after some lines.
 ///
 /// It keeps the allocator that later calls grow it in.
-#[derive(Debug, Drop)]
-pub struct Replay {
+#[derive(Drop)]
+pub struct Replay<'a> {
     alloc: Global,
-    server: Server,
-    client: Client,
+    classes: &'a Classes,
+    driver: Driver<'a>,
+    places: Vec<Place<'a>>,
+    spent: bool,
 }
 
-impl Model for Replay {
+impl<'a> Model for Replay<'a> {
     ghost use Rattle.replay_core.specs.Kept.{Kept};
 
     ghost Value = { Kept };
 
-    ghost use Rattle.replay_core.specs.Turns.{kept_of};
-
-    ghost view = { λ a. kept_of a.server a.client };
+    ghost view = { λ r. record {
+      layout = r.classes.now;
+      driver = r.driver;
+      places = r.places.items;
+      spent = r.spent;
+    } };
 }
 
-impl Replay {
+impl<'a> Replay<'a> {
     /// Before the first line.
-    pub fn new(alloc: Global) -> Replay
-        ensures { Stands result [] }
+    pub fn new(alloc: Global, classes: &'a Classes) -> Result<Replay<'a>, Memory>
+        ensures stands { IfOk result (λ r. Stands r first_story) }
+        ensures layout { IfOk result (λ r. r.layout ≡ classes.now) }
     {
-        Replay {
+        let driver = Driver::new(alloc, classes)?;
+        Ok(Replay {
             alloc,
-            server: Server::new(alloc),
-            client: Client::new(),
-        }
+            classes,
+            driver,
+            places: Vec::new(alloc),
+            spent: false,
+        })
     }
 
-    /// Replays a line that may come after those before it, and tells what it does.
-    ///
-    /// After `Memory` the replay has no further use: it may have done a part of the line.
+    /// Does a line that may follow those before it, and answers what it tells. After `Memory` the
+    /// replay is spent, and answers `Memory` to each line.
     pub fn step(&mut self, line: &Line) -> Result<EventList, Memory>
-        requires { (lines : List story.Line) × Stands self.old lines × IsTrue (may_follow lines (line_of line.now)) }
-        ensures told { IfOk result (λ events. (lines : List story.Line) → Stands self.old lines → map report_of events ≡ reports_of lines (line_of line.now)) }
-        ensures stands { OnOk result ((lines : List story.Line) → Stands self.old lines → Stands self.new (line_of line.now ∷ lines)) }
+        requires { IsSpent self.old
+            ⊎ ((story : Story) × Stands self.old story × May self.old.layout story line.now) }
+        ensures told { IfOk result (λ events. (story : Story) → Stands self.old story
+            → map (report_of (table_in self.old.layout)) events
+            ≡ (after_line (table_in self.old.layout) story (line_of line.now)).1) }
+        ensures stands { OnOk result ((story : Story) → Stands self.old story
+            → Stands self.new
+            (after_line (table_in self.old.layout) story (line_of line.now)).0) }
+        ensures spent { OnErr result (IsSpent self.new) }
+        ensures after { IsSpent self.old → IsErr result }
+        ensures layout { self.new.layout ≡ self.old.layout }
     {
-        match *line {
-            Line::Join { player, .. } => self.join(player),
-            Line::Spawn { x, y, .. } => self.spawn(x, y),
-            Line::Set { value, .. } => self.set_health(value),
-            Line::Tick => self.tick(),
-            Line::Down { player, packet } => self.down(player, packet),
-            Line::Dump { player } => self.dump(player),
+        if self.spent {
+            return Err(Memory);
+        }
+        match self.advance(line) {
+            Ok(events) => Ok(events),
+            Err(_) => {
+                self.spent = true;
+                Err(Memory)
+            }
         }
     }
 
-    /// The player joins.
-    fn join(&mut self, player: Player) -> Result<EventList, Memory>
-        ensures told { IfOk result (λ events. map report_of events ≡ Joined player ∷ []) }
-        ensures after { OnOk result (self.new ≡ record self.old { player = Some player }) }
+    /// The copies of a player's client; `None` exactly where the player didn't join.
+    pub fn copies(&self, player: Player) -> Option<&CopyList>
+        ensures { (story : Story) → Stands self.now story
+            → option_map (map (copy_value_of self.now.layout)) (option_copied result)
+            ≡ option_map (λ (p : PlayerStory).
+            copies_of (past_at (table_in self.now.layout) AtClient p))
+            (player_in story.players player) }
     {
-        self.server.player = Some(player);
-        one(self.alloc, Event::Joined { player })
+        let i = self.seat(player)?;
+        Some(self.places[i].client.copies())
     }
 
-    /// The Pawn is spawned.
-    fn spawn(&mut self, x: i32, y: i32) -> Result<EventList, Memory>
-        ensures told { IfOk result (λ events. map report_of events ≡ Actor 2 ∷ []) }
-        ensures after { OnOk result (self.new ≡ record self.old { pawn = Some (record { x = x; y = y; hp = 100 }) }) }
+    /// Does a line, and answers what it tells. After `Memory` it may be done in part.
+    fn advance(&mut self, line: &Line) -> Result<EventList, Memory>
+        requires { (story : Story) × Stands self.old story × May self.old.layout story line.now }
+        ensures told { IfOk result (λ events. (story : Story) → Stands self.old story
+            → map (report_of (table_in self.old.layout)) events
+            ≡ (after_line (table_in self.old.layout) story (line_of line.now)).1) }
+        ensures stands { OnOk result ((story : Story) → Stands self.old story
+            → Stands self.new
+            (after_line (table_in self.old.layout) story (line_of line.now)).0) }
+        ensures layout { self.new.layout ≡ self.old.layout }
     {
-        self.server.pawn = Some(Pawn {
-            x,
-            y,
-            hp: FULL_HEALTH,
-        });
-        one(self.alloc, Event::Actor { actor: FIRST_ACTOR })
-    }
-
-    /// The Pawn's health is set.
-    fn set_health(&mut self, hp: u8) -> Result<EventList, Memory>
-        ensures told { IfOk result (λ events. map report_of events ≡ []) }
-        ensures after { OnOk result (self.new ≡ record self.old { pawn = with_health hp self.old.pawn }) }
-    {
-        if let Some(pawn) = self.server.pawn {
-            self.server.pawn = Some(Pawn {
-                x: pawn.x,
-                y: pawn.y,
-                hp,
-            });
+        match player_of(line) {
+            Some(player) => self.player_line(player, line),
+            None => self.world_line(line),
         }
-        Ok(Items::new(self.alloc))
+    }
+
+    /// The place of a player.
+    fn seat(&self, player: Player) -> Option<usize>
+        ensures { result ≡ position (λ (k : PlaceSpec). k.player == player) self.now.places }
+    {
+        self.places.iter().position(|k| k.player == player)
+    }
+
+    /// Does a line of a player who is there.
+    fn player_line(&mut self, player: Player, line: &Line) -> Result<EventList, Memory>
+        requires whose { line_player (line_of line.now) ≡ Some player }
+        requires stands { (story : Story) × Stands self.old story
+            × IsThere story.players player × MayDo self.old.layout story.edits line.now }
+        ensures told { IfOk result (λ events. (story : Story) → Stands self.old story
+            → map (report_of (table_in self.old.layout)) events
+            ≡ (after_line (table_in self.old.layout) story (line_of line.now)).1) }
+        ensures stands { OnOk result ((story : Story) → Stands self.old story
+            → Stands self.new
+            (after_line (table_in self.old.layout) story (line_of line.now)).0) }
+        ensures layout { self.new.layout ≡ self.old.layout }
+    {
+        let mut events = Items::new(self.alloc);
+        let Some(i) = self.seat(player) else {
+            return Ok(events);
+        };
+        do_line(
+            self.alloc,
+            &mut self.driver,
+            &mut self.places[i],
+            line,
+            &mut events,
+        )?;
+        Ok(events)
+    }
+
+    /// Does a line that is no single player's.
+    fn world_line(&mut self, line: &Line) -> Result<EventList, Memory>
+        requires whose { line_player (line_of line.now) ≡ None }
+        requires stands { (story : Story) × Stands self.old story
+            × May self.old.layout story line.now }
+        ensures told { IfOk result (λ events. (story : Story) → Stands self.old story
+            → map (report_of (table_in self.old.layout)) events
+            ≡ (after_line (table_in self.old.layout) story (line_of line.now)).1) }
+        ensures stands { OnOk result ((story : Story) → Stands self.old story
+            → Stands self.new
+            (after_line (table_in self.old.layout) story (line_of line.now)).0) }
+        ensures layout { self.new.layout ≡ self.old.layout }
+    {
+        match line {
+            Line::Join {
+                player,
+                budget,
+                version,
+            } => self.join(*player, *budget, *version),
+            Line::Edit(e) => self.edit(*e),
+            Line::Multi { actor, call, args } => self.multicast(*actor, *call, args.as_slice()),
+            _ => self.tick(),
+        }
+    }
+
+    /// A player joins.
+    fn join(&mut self, player: Player, budget: u32, version: Version) -> Result<EventList, Memory>
+        requires { (story : Story) × Stands self.old story × MayJoin story.players player budget }
+        ensures told { IfOk result (λ events. (story : Story) → Stands self.old story
+            → map (report_of (table_in self.old.layout)) events
+            ≡ (after_line (table_in self.old.layout) story (lines.Join player budget version)).1) }
+        ensures stands { OnOk result ((story : Story) → Stands self.old story
+            → Stands self.new
+            (after_line (table_in self.old.layout) story (lines.Join player budget version)).0) }
+        ensures layout { self.new.layout ≡ self.old.layout }
+    {
+        let mut events = Items::new(self.alloc);
+        let Ok(()) = self.driver.join(player, budget, version) else {
+            return Err(Memory);
+        };
+        let place = Place::new(self.alloc, self.classes, player, version)?;
+        add_place(&mut self.places, place)?;
+        events.push(Event::Joined { player })?;
+        Ok(events)
+    }
+
+    /// The world changes.
+    fn edit(&mut self, e: Edit) -> Result<EventList, Memory>
+        requires { (story : Story) × Stands self.old story × (length story.edits < 2 ^ 61) }
+        ensures told { IfOk result (λ events. (story : Story) → Stands self.old story
+            → map (report_of (table_in self.old.layout)) events
+            ≡ (after_line (table_in self.old.layout) story (lines.ApplyEdit (edit_of e))).1) }
+        ensures stands { OnOk result ((story : Story) → Stands self.old story
+            → Stands self.new
+            (after_line (table_in self.old.layout) story (lines.ApplyEdit (edit_of e))).0) }
+        ensures layout { self.new.layout ≡ self.old.layout }
+    {
+        let Ok(spawned) = self.driver.edit(e) else {
+            return Err(Memory);
+        };
+        let events = tell_actor(self.alloc, spawned)?;
+        Ok(events)
     }
 
     /// The server ticks.
     fn tick(&mut self) -> Result<EventList, Memory>
-        requires few { self.old.ticks < 30000 }
-        requires stands { (lines : List story.Line) × Stands self.old lines }
-        ensures told { IfOk result (λ events. (lines : List story.Line) → Stands self.old lines → map report_of events ≡ reports_of lines story.TickAll) }
-        ensures stands { OnOk result ((lines : List story.Line) → Stands self.old lines → Stands self.new (story.TickAll ∷ lines)) }
+        requires { (story : Story) × Stands self.old story }
+        ensures told { IfOk result (λ events. (story : Story) → Stands self.old story
+            → map (report_of (table_in self.old.layout)) events
+            ≡ (after_line (table_in self.old.layout) story lines.TickAll).1) }
+        ensures stands { OnOk result ((story : Story) → Stands self.old story
+            → Stands self.new (after_line (table_in self.old.layout) story lines.TickAll).0) }
+        ensures layout { self.new.layout ≡ self.old.layout }
     {
-        let Some(player) = self.server.player else {
-            return Ok(Items::new(self.alloc));
-        };
-        let Some(bytes) = self.server.tick(self.alloc)? else {
-            return Ok(Items::new(self.alloc));
-        };
-        let number = self.server.packets.len() as u64;
-        one(
-            self.alloc,
-            Event::Sent {
-                player,
-                number,
-                bytes,
-            },
-        )
-    }
-
-    /// A packet of the server is delivered to the client.
-    fn down(&mut self, player: Player, number: u32) -> Result<EventList, Memory>
-        requires least { 1 ≤ number }
-        requires stands { (lines : List story.Line) × Stands self.old lines }
-        ensures told { IfOk result (λ events. (lines : List story.Line) → Stands self.old lines → map report_of events ≡ reports_of lines (story.Deliver AtClient player number)) }
-        ensures stands { OnOk result ((lines : List story.Line) → Stands self.old lines → Stands self.new (story.Deliver AtClient player number ∷ lines)) }
-    {
-        packet_is_read_back();
-        let Some(bytes) = self.server.packet(number) else {
-            return one(
-                self.alloc,
-                Event::Down {
-                    player,
-                    number,
-                    answer: Delivery::Absent,
-                },
-            );
-        };
-        let verdict = self.client.take(self.alloc, bytes.as_slice())?;
-        one(
-            self.alloc,
-            Event::Down {
-                player,
-                number,
-                answer: Delivery::Says(verdict),
-            },
-        )
-    }
-
-    /// The client's copy is told.
-    fn dump(&self, player: Player) -> Result<EventList, Memory>
-        ensures { IfOk result (λ events. map report_of events ≡ copies_told player self.now.copy) }
-    {
-        let Some(pawn) = &self.client.copy else {
-            return one(self.alloc, Event::Copies { player, count: 0 });
-        };
-        let mut events = one(self.alloc, Event::Copies { player, count: 1 })?;
-        events.push(copy_event(self.alloc, player, pawn)?)?;
+        let mut events = Items::new(self.alloc);
+        let ticks = tick::<Brand>(&mut self.driver, Blank::new(1))?;
+        keep_all(self.alloc, &mut self.places, ticks, &mut events)?;
         Ok(events)
     }
-}
 
-/// A list of one event.
-fn one(alloc: Global, event: Event) -> Result<EventList, Memory>
-    ensures { IfOk result (λ events. events ≡ event ∷ []) }
-{
-    let mut events = Items::new(alloc);
-    events.push(event)?;
-    Ok(events)
-}
-
-/// The copy of the Pawn, with each value by its name.
-fn copy_event(alloc: Global, player: Player, pawn: &Pawn) -> Result<Event, Memory>
-    ensures { IfOk result (λ event. report_of event ≡ copy_report player pawn.now) }
-{
-    let mut values = Items::new(alloc);
-    put(&mut values, alloc, "x", i64::from(pawn.x))?;
-    put(&mut values, alloc, "y", i64::from(pawn.y))?;
-    put(&mut values, alloc, "role", 0)?;
-    put(&mut values, alloc, "hp", i64::from(pawn.hp))?;
-    put(&mut values, alloc, "ammo", 0)?;
-    put(&mut values, alloc, "team", 0)?;
-    put(&mut values, alloc, "aim", 0)?;
-    Ok(Event::Copy {
-        player,
-        actor: FIRST_ACTOR,
-        class: Text::from_str(alloc, "Pawn")?,
-        channel: Some(1),
-        values,
-    })
-}
-
-/// Appends a value with its name.
-fn put(values: &mut NamedList, alloc: Global, name: &str, value: i64) -> Result<(), Memory>
-    ensures { OnOk result (values.new ≡ values.old ++ record { name = name.now; value = value } ∷ []) }
-{
-    let name = Text::from_str(alloc, name)?;
-    values.push(Named { name, value })
+    /// The server makes a call to each player.
+    fn multicast(&mut self, actor: Guid, call: u16, args: &[Arg]) -> Result<EventList, Memory>
+        requires { (story : Story) × Stands self.old story
+            × IsMade (table_in self.old.layout) story.edits actor call args.now }
+        ensures told { IfOk result (λ events. (story : Story) → Stands self.old story
+            → map (report_of (table_in self.old.layout)) events
+            ≡ (after_line (table_in self.old.layout) story
+            (lines.CallAll actor call (map arg_of args.now))).1) }
+        ensures stands { OnOk result ((story : Story) → Stands self.old story
+            → Stands self.new (after_line (table_in self.old.layout) story
+            (lines.CallAll actor call (map arg_of args.now))).0) }
+        ensures layout { self.new.layout ≡ self.old.layout }
+    {
+        let mut events = Items::new(self.alloc);
+        call_each(
+            &mut self.driver,
+            self.places.as_slice(),
+            actor,
+            call,
+            args,
+            &mut events,
+        )?;
+        Ok(events)
+    }
 }

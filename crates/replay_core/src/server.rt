@@ -1,153 +1,276 @@
-// The server's end: the world as it is, and each packet that was sent.
-ghost use Rattle.std.specs.Prelude.{◌≡◌, ◌<◌, ◌≤◌, ◌+◌, ◌-◌, ◌∷◌, [], map, length, Option, Some, None, option_map, option_copied, slice_get, unwrap_or, IfOk, OnOk, pos};
-ghost use Rattle.protocol_model.specs.Packet.{Spells, spelling_of};
-ghost use Rattle.packet_codec.specs.Values.{rec_of};
-ghost use Rattle.replay_core.specs.Turns.{is_near, packet_with, open_packet, due, due_open, sent_by, ticked};
+// What the server does of lines, and what it is told.
+ghost use Rattle.std.specs.Prelude.{◌≡◌, ◌≤◌, ◌<◌, ℕ, List, map, OnOk, IfOk};
+ghost use Rattle.protocol_model.specs.Side.{AtServer};
+ghost use Rattle.protocol_model.specs.World.{Edits};
+ghost use Rattle.replication_model.specs.Story.{Player as PlayerStory, after_delivery, after_new_deliveries, after_forgery, after_call_of, settled_answer, after_tick_of};
+ghost use Rattle.class_layout.specs.Tables.{Layout, table_in};
+ghost use Rattle.value_codec.specs.Values.{arg_of};
+ghost use Rattle.handovers.specs.Handovers.{handover_of};
+ghost use Rattle.net_driver.specs.Calls.{IsMade};
+ghost use Rattle.replay_places.specs.Places.{IsPlace};
+ghost use Rattle.replay_places.specs.Doing.{Adds, handover_reports, kept_delivery};
+ghost use Rattle.replay_core.specs.Stands.{Serving, ArePlaces, Ascend};
+ghost use Rattle.replay_core.specs.Lines.{IsAt, Hears, Serves, DoesAt, AreTicked, AreServed, AreKept, all_after};
 
-use bit_io::{Blob, Head, Memory};
-use net_core::{Items, Player};
-use packet_codec::{Bunch, Packet, Rec, RecList, encode};
-use pawn_open::{Pawn, put_open};
-use protocol_model::{Part, Version};
+use class_layout::Arg;
+use handovers::HandedList;
+use net_core::{Guid, Memory, Player, Steps};
+use net_driver::{Driver, PlayerTick, TickList};
+use protocol_model::Verdict;
+use protocol_model::limits::LATE_DISTANCE;
+use replay_places::{Place, is_kept};
+use script_lines::{Delivery, Event, EventList};
 use std::alloc::Global;
+use std::sync::ledger::{Blank, Ledger};
 
-/// After so many ticks without a packet the server sends an empty one.
-const BEAT: u32 = 8;
+// ---- what a player's end hears
 
-/// The square of the distance up to which a Pawn is relevant.
-const NEAR_SQUARED: i128 = 1_000_000;
-
-/// The player, the Pawn as it is, the ticks since the join, the tick of the open, and each packet
-/// sent, the oldest first.
-#[derive(Debug, Drop)]
-pub(crate) struct Server {
-    pub player: Option<Player>,
-    pub pawn: Option<Pawn>,
-    pub ticks: u32,
-    pub opened: Option<u32>,
-    pub packets: Items<Blob>,
-}
-
-impl Server {
-    /// Before the first line.
-    pub fn new(alloc: Global) -> Server
-        ensures { result ≡ record { player = None; pawn = None; ticks = 0; opened = None; packets = [] } }
-    {
-        Server {
-            player: None,
-            pawn: None,
-            ticks: 0,
-            opened: None,
-            packets: Items::new(alloc),
-        }
-    }
-
-    /// A tick after the join: the bytes of the packet that it sends, if it sends one.
-    pub fn tick(&mut self, alloc: Global) -> Result<Option<Blob>, Memory>
-        requires few { self.old.ticks < 30000 }
-        requires since { unwrap_or self.old.opened 0 ≤ self.old.ticks }
-        requires numbers { length self.old.packets < 16383 }
-        ensures sent { IfOk result (λ sent. sent ≡ sent_by self.old) }
-        ensures after { OnOk result (self.new ≡ ticked self.old) }
-    {
-        self.ticks += 1;
-        let Some(bytes) = self.due_packet(alloc)? else {
-            return Ok(None);
-        };
-        if self.opened.is_none() {
-            self.opened = Some(self.ticks);
-        }
-        let copy = copied(alloc, bytes.as_slice())?;
-        self.packets.push(bytes)?;
-        Ok(Some(copy))
-    }
-
-    /// The packet that this tick sends, if it sends one.
-    fn due_packet(&self, alloc: Global) -> Result<Option<Blob>, Memory>
-        requires since { unwrap_or self.now.opened 0 ≤ self.now.ticks }
-        requires numbers { length self.now.packets < 16383 }
-        ensures { IfOk result (λ sent. sent ≡ option_map (λ p. spelling_of Version.One p) (due self.now.opened self.now.pawn self.now.ticks (length self.now.packets))) }
-    {
-        match self.opened {
-            None => due_open(alloc, &self.pawn),
-            Some(opened) => {
-                if (self.ticks - opened) % BEAT != 0 {
-                    return Ok(None);
-                }
-                let number = self.packets.len() as u16 + 1;
-                Ok(Some(spelled(alloc, number, RecList::from_vec(Vec::new(alloc)))?))
-            }
-        }
-    }
-
-    /// The packet of a number, which counts from 1, if it was sent.
-    pub fn packet(&self, number: u32) -> Option<&Blob>
-        requires { 1 ≤ number }
-        ensures { option_copied result ≡ slice_get self.now.packets (number - 1) }
-    {
-        self.packets.get(number as usize - 1)
-    }
-}
-
-/// The packet with the open, if there is a Pawn that is near.
-fn due_open(alloc: Global, pawn: &Option<Pawn>) -> Result<Option<Blob>, Memory>
-    ensures { IfOk result (λ sent. sent ≡ option_map (λ p. spelling_of Version.One p) (due_open pawn.now)) }
+/// A packet of a player's client is delivered to the server, unless it was never sent or is late.
+pub(crate) fn deliver(
+    driver: &mut Driver<'_>,
+    place: &Place<'_>,
+    packet: u64,
+    events: &mut EventList,
+) -> Result<(), Memory>
+    requires first { 1 ≤ packet }
+    requires there { (layout : Layout) × (edits : Edits) × (players : List PlayerStory) × (i : ℕ)
+        × (p : PlayerStory) × Serving layout driver.old edits players × IsAt players i p
+        × IsPlace layout place.now p }
+    ensures { OnOk result ((layout : Layout) → DoesAt layout
+        (λ edits. after_delivery (table_in layout) edits AtServer packet)
+        driver.old driver.new place.now place.now events.old events.new) }
 {
-    match pawn {
-        Some(pawn) if is_near(pawn) => Ok(Some(opened(alloc, pawn)?)),
-        _ => Ok(None),
-    }
-}
-
-/// The Pawn is at most 1,000 away from where the player looks from.
-fn is_near(pawn: &Pawn) -> bool
-    ensures { result ≡ is_near pawn.now }
-{
-    let x = i128::from(pawn.x);
-    let y = i128::from(pawn.y);
-    x * x + y * y <= NEAR_SQUARED
-}
-
-/// The packet with the open of the Pawn.
-fn opened(alloc: Global, pawn: &Pawn) -> Result<Blob, Memory>
-    ensures { IfOk result (λ bytes. bytes ≡ spelling_of Version.One (open_packet pawn.now)) }
-{
-    let payload = put_open(alloc, pawn)?;
-    let mut recs = Vec::new(alloc);
-    recs.push(Rec::Bunch(Bunch {
-        opens: true,
-        closes: false,
-        sleeps: false,
-        reliable: true,
-        channel: 1,
-        exports: true,
-        part: Part::Whole,
-        seq: 1,
-        kind: 2,
-        payload: payload.lend(),
-    }))?;
-    spelled(alloc, 1, RecList::from_vec(recs))
-}
-
-/// The bytes of the packet with these entries.
-fn spelled(alloc: Global, number: u16, recs: RecList) -> Result<Blob, Memory>
-    requires { let p = packet_with number (map rec_of recs) in Spells Version.One p (spelling_of Version.One p) }
-    ensures { IfOk result (λ bytes. bytes ≡ spelling_of Version.One (packet_with number (map rec_of recs.entry))) }
-{
-    let head = Head {
-        top: 0,
-        count: 0,
-        words: [0; 8],
+    let player = place.player;
+    let Some(bytes) = place.up.get((packet - 1) as usize) else {
+        let answer = Delivery::Absent;
+        return events.push(Event::Up {
+            player,
+            packet,
+            answer,
+        });
     };
-    let packet = Packet { number, head, recs };
-    encode(alloc, Version::One, &packet)
+    if packet < driver.last_taken(player).saturating_sub(LATE_DISTANCE) {
+        let answer = Delivery::Late;
+        return events.push(Event::Up {
+            player,
+            packet,
+            answer,
+        });
+    }
+    let verdict = hear(driver, player, bytes.as_slice(), events)?;
+    let answer = Delivery::Says(verdict);
+    events.push(Event::Up {
+        player,
+        packet,
+        answer,
+    })
 }
 
-/// A copy of bytes.
-fn copied(alloc: Global, bytes: &[u8]) -> Result<Blob, Memory>
-    ensures { IfOk result (λ copy. copy ≡ bytes.now) }
+/// Each packet of a player's client since the last call of this kind is delivered to the server, but
+/// those whose number is a multiple of `every`; 0 loses none.
+pub(crate) fn deliver_new(
+    driver: &mut Driver<'_>,
+    place: &mut Place<'_>,
+    every: u32,
+    events: &mut EventList,
+) -> Result<(), Memory>
+    requires there { (layout : Layout) × (edits : Edits) × (players : List PlayerStory) × (i : ℕ)
+        × (p : PlayerStory) × Serving layout driver.old edits players × IsAt players i p
+        × IsPlace layout place.old p }
+    ensures { OnOk result ((layout : Layout) → DoesAt layout
+        (λ edits. after_new_deliveries (table_in layout) edits AtServer every)
+        driver.old driver.new place.old place.new events.old events.new) }
 {
-    let mut copy = Blob::new(alloc);
-    copy.extend_from_slice(bytes)?;
-    Ok(copy)
+    let from = place.told_up;
+    let to = place.up.len();
+    place.told_up = to;
+    for k in from..to {
+        deliver_kept(driver, place, every, k as u64 + 1, events)?;
+    }
+    Ok(())
+}
+
+/// The packet is delivered, unless its number is a multiple of `every`.
+fn deliver_kept(
+    driver: &mut Driver<'_>,
+    place: &Place<'_>,
+    every: u32,
+    packet: u64,
+    events: &mut EventList,
+) -> Result<(), Memory>
+    requires first { 1 ≤ packet }
+    requires there { (layout : Layout) × (edits : Edits) × (players : List PlayerStory) × (i : ℕ)
+        × (p : PlayerStory) × Serving layout driver.old edits players × IsAt players i p
+        × IsPlace layout place.now p }
+    ensures { OnOk result ((layout : Layout) → DoesAt layout
+        (λ edits. kept_delivery (table_in layout) edits AtServer every packet)
+        driver.old driver.new place.now place.now events.old events.new) }
+{
+    if !is_kept(every, packet) {
+        return Ok(());
+    }
+    deliver(driver, place, packet, events)
+}
+
+/// Bytes that nobody sent reach the server as from a player.
+pub(crate) fn forge(
+    driver: &mut Driver<'_>,
+    player: Player,
+    bytes: &[u8],
+    events: &mut EventList,
+) -> Result<(), Memory>
+    requires there { (layout : Layout) × (edits : Edits) × (players : List PlayerStory) × (i : ℕ)
+        × (p : PlayerStory) × Serving layout driver.old edits players × IsAt players i p
+        × (player ≡ p.number) }
+    ensures { OnOk result ((layout : Layout) → Serves layout
+        (λ edits. after_forgery (table_in layout) edits AtServer bytes.now)
+        player driver.old driver.new events.old events.new) }
+{
+    let verdict = hear(driver, player, bytes, events)?;
+    events.push(Event::Forged { player, verdict })
+}
+
+/// A player's end hears a datagram: the calls that it hands over are told, and what it says is
+/// answered.
+fn hear(
+    driver: &mut Driver<'_>,
+    player: Player,
+    bytes: &[u8],
+    events: &mut EventList,
+) -> Result<Verdict, Memory>
+    requires there { (layout : Layout) × (edits : Edits) × (players : List PlayerStory) × (i : ℕ)
+        × (p : PlayerStory) × Serving layout driver.old edits players × IsAt players i p
+        × (player ≡ p.number) }
+    ensures { IfOk result (λ verdict. (layout : Layout)
+        → Hears layout player bytes.now verdict driver.old driver.new events.old events.new) }
+{
+    let outcome = driver.take(player, bytes)?;
+    tell_handed(player, outcome.handed, events)?;
+    Ok(outcome.verdict)
+}
+
+/// Appends the calls that a datagram handed over to the server.
+fn tell_handed(player: Player, calls: HandedList, events: &mut EventList) -> Result<(), Memory>
+    ensures { OnOk result ((layout : Layout) → Adds (table_in layout) events.old events.new
+        (handover_reports AtServer player (map (handover_of layout) calls))) }
+{
+    for handed in calls.into_vec() {
+        events.push(Event::Handed { player, handed })?;
+    }
+    Ok(())
+}
+
+// ---- what it is asked
+
+/// The server makes a call to a player.
+pub(crate) fn call(
+    driver: &mut Driver<'_>,
+    player: Player,
+    actor: Guid,
+    number: u16,
+    args: &[Arg],
+    events: &mut EventList,
+) -> Result<(), Memory>
+    requires there { (layout : Layout) × (edits : Edits) × (players : List PlayerStory) × (i : ℕ)
+        × (p : PlayerStory) × Serving layout driver.old edits players × IsAt players i p
+        × (player ≡ p.number) × IsMade (table_in layout) edits actor number args.now }
+    ensures { OnOk result ((layout : Layout) → Serves layout
+        (λ edits. after_call_of (table_in layout) AtServer actor number (map arg_of args.now))
+        player driver.old driver.new events.old events.new) }
+{
+    let answer = driver.call(player, actor, number, args)?;
+    events.push(Event::Called { player, answer })
+}
+
+/// The server makes a call to each player.
+pub(crate) fn call_each(
+    driver: &mut Driver<'_>,
+    places: &[Place<'_>],
+    actor: Guid,
+    number: u16,
+    args: &[Arg],
+    events: &mut EventList,
+) -> Result<(), Memory>
+    requires there { (layout : Layout) × (edits : Edits) × (players : List PlayerStory)
+        × Serving layout driver.old edits players × Ascend 0 players
+        × ArePlaces layout places.now players
+        × IsMade (table_in layout) edits actor number args.now }
+    ensures { OnOk result ((layout : Layout) (edits : Edits) (players : List PlayerStory)
+        → Serving layout driver.old edits players → Ascend 0 players
+        → ArePlaces layout places.now players
+        → AreServed layout driver.new events.old events.new edits
+        (after_call_of (table_in layout) AtServer actor number (map arg_of args.now)) players) }
+{
+    for place in places {
+        call(driver, place.player, actor, number, args, events)?;
+    }
+    Ok(())
+}
+
+/// Whether nothing of an actor is left to be sent to a player is told.
+pub(crate) fn settled(
+    driver: &Driver<'_>,
+    player: Player,
+    actor: Guid,
+    events: &mut EventList,
+) -> Result<(), Memory>
+    requires there { (layout : Layout) × (edits : Edits) × (players : List PlayerStory) × (i : ℕ)
+        × (p : PlayerStory) × Serving layout driver.now edits players × IsAt players i p
+        × (player ≡ p.number) }
+    ensures { OnOk result ((layout : Layout) → Serves layout
+        (λ edits. settled_answer (table_in layout) edits actor)
+        player driver.now driver.now events.old events.new) }
+{
+    let holds = driver.settled(player, actor)?;
+    events.push(Event::Settled {
+        player,
+        actor,
+        holds,
+    })
+}
+
+// ---- ticks
+
+/// The server ticks.
+pub(crate) fn tick<L: Ledger>(driver: &mut Driver<'_>, blank: Blank) -> Result<TickList, Memory>
+    requires name { blank.name ≡ L.name }
+    requires parts { blank.parts ≡ L.parts }
+    requires some { 0 < L.parts }
+    requires there { (layout : Layout) × (edits : Edits) × (players : List PlayerStory)
+        × Serving layout driver.old edits players }
+    ensures sent { IfOk result (λ ticks. (layout : Layout) (edits : Edits)
+        (players : List PlayerStory) → Serving layout driver.old edits players
+        → AreTicked (table_in layout) edits players ticks) }
+    ensures serves { OnOk result ((layout : Layout) (edits : Edits)
+        (players : List PlayerStory) → Serving layout driver.old edits players
+        → Serving layout driver.new edits
+        (all_after (after_tick_of (table_in layout) edits AtServer) players)) }
+{
+    let mut steps = Steps::<L>::new(blank);
+    driver.tick(&mut steps)
+}
+
+/// What each player was sent is kept at the player's place, and told.
+pub(crate) fn keep_all(
+    alloc: Global,
+    places: &mut Vec<Place<'_>>,
+    ticks: TickList,
+    events: &mut EventList,
+) -> Result<(), Memory>
+    ensures { OnOk result ((layout : Layout) (edits : Edits) (players : List PlayerStory)
+        → ArePlaces layout places.old.items players
+        → AreTicked (table_in layout) edits players ticks
+        → AreKept layout places.new.items events.old events.new
+        (after_tick_of (table_in layout) edits AtServer) players) }
+{
+    let mut left = ticks.into_vec().into_iter();
+    let count = places.len();
+    for i in 0..count {
+        let Some(ticked) = left.next() else {
+            return Ok(());
+        };
+        let PlayerTick { sent, stalled, .. } = ticked;
+        places[i].keep_sent(alloc, sent, stalled, events)?;
+    }
+    Ok(())
 }

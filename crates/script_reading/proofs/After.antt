@@ -1,22 +1,17 @@
 -- What is kept after a line stands for the lines with it.
-use Rattle.std.proofs.Common.{◌≡◌, ℕ, zero, suc, ◌+◌, ◌-◌, ◌*◌, ◌/◌, ◌≤◌, ◌<◌, List, [], ◌∷◌, ◌++◌, length, refl, sym, ◌∙◌, ap, subst, arith, Bool, true, false, not, ◌&&◌, ◌||◌, ◌==◌, nat_le, nat_eq, Option, Some, None, is_some, is_none, option_map, unwrap_or, cond, ℤ, pos, negsuc}
+use Rattle.std.proofs.Common.{◌≡◌, ℕ, zero, suc, ◌+◌, ◌-◌, ◌*◌, ◌/◌, ◌≤◌, ◌<◌, List, [], ◌∷◌, ◌++◌, length, refl, sym, ◌∙◌, ap, subst, arith, Bool, true, false, not, ◌&&◌, ◌||◌, ◌==◌, nat_le, nat_eq, Option, Some, None, is_some, is_none, option_map, unwrap_or, cond, ℤ}
 use Rattle.std.specs.Prelude.{slice_get}
 use Rattle.std.specs.List.{list_any}
 use Rattle.std.proofs.lemmas.Bool.Decides.{nat_tests}
 use Rattle.std.proofs.lemmas.List.{length-append}
 use Rattle.std.proofs.lemmas.List.Sums.{sum_by-cons}
 use Rattle.std.proofs.lemmas.Option.{slice_get_past}
-use Rattle.protocol_model.specs.declared.LineWhy.{LineWhy}
 use Rattle.protocol_model.specs.Limits.{spawn_limit}
 use Rattle.protocol_model.specs.Payload.{natural}
-use Rattle.protocol_model.specs.Search.{is_among}
-use Rattle.protocol_model.specs.Side.{Side, AtServer, AtClient}
-use Rattle.protocol_model.specs.Value.{Table, Class, Call}
+use Rattle.protocol_model.specs.Value.{Table, Call}
 use Rattle.protocol_model.specs.World as world
 use Rattle.protocol_model.specs.World.{Edits, Edit, Spawned, spawn_count, spawn_of, class_at, destroys, is_spawn}
-use Rattle.script_model.specs.Lines as story
 use Rattle.script_model.specs.Script.{Spelled, Join, Spawn, Destroy, Set, Own, View, Add, Dormant, Wake, Flush, Switch, Team, Give, Tick, ClientTick, Deliver, DeliverNew, CallTo, CallAll, Dump, AskSettled, Forge}
-use Rattle.script_model.specs.ScriptRules as rules
 use Rattle.script_model.specs.ScriptRules.{Before, is_actor, actor_in, guid_of, is_in_range, is_live, has_joined, player_in, joining_player, class_named, class_in, named_in, call_in, goes_right, has_value, is_past_last, if_there, refusal_of, line_of, after_spelled}
 use Rattle.script_reading.specs.Kept.{Kept, Actor, nothing, destroyed_at, kept_after}
 use Rattle.script_reading.specs.Stands.{Stands, seen_at, seen_in}
@@ -25,65 +20,47 @@ use Rattle.script_reading.proofs.Standing.{none_at_0, not_spawned}
 
 -- ---- a line that isn't refused
 
-no_actor_reason : (a b c d e f g h i j : Bool) → chain a b c d e f g h i j ≡ None → f ≡ false
-no_actor_reason true b c d e f g h i j is = absurd cc
-no_actor_reason false true c d e f g h i j is = absurd cc
-no_actor_reason false false true d e f g h i j is = absurd cc
-no_actor_reason false false false true e f g h i j is = absurd cc
-no_actor_reason false false false false true f g h i j is = absurd cc
-no_actor_reason false false false false false true g h i j is = absurd cc
-no_actor_reason false false false false false false g h i j is = refl
-
-no_last_reason : (a b c d e f g h i j : Bool) → chain a b c d e f g h i j ≡ None → j ≡ false
-no_last_reason true b c d e f g h i j is = absurd cc
-no_last_reason false true c d e f g h i j is = absurd cc
-no_last_reason false false true d e f g h i j is = absurd cc
-no_last_reason false false false true e f g h i j is = absurd cc
-no_last_reason false false false false true f g h i j is = absurd cc
-no_last_reason false false false false false true g h i j is = absurd cc
-no_last_reason false false false false false false true h i j is = absurd cc
-no_last_reason false false false false false false false true i j is = absurd cc
-no_last_reason false false false false false false false false true j is = absurd cc
-no_last_reason false false false false false false false false false true is = absurd cc
-no_last_reason false false false false false false false false false false is = refl
+-- an actor that may not be named, or one too many
+no_reason : (a b c d e f g h i j : Bool) → chain a b c d e f g h i j ≡ None → (f ≡ false) × (j ≡ false)
+no_reason true b c d e f g h i j is = absurd cc
+no_reason false true c d e f g h i j is = absurd cc
+no_reason false false true d e f g h i j is = absurd cc
+no_reason false false false true e f g h i j is = absurd cc
+no_reason false false false false true f g h i j is = absurd cc
+no_reason false false false false false true g h i j is = absurd cc
+no_reason false false false false false false true h i j is = absurd cc
+no_reason false false false false false false false true i j is = absurd cc
+no_reason false false false false false false false false true j is = absurd cc
+no_reason false false false false false false false false false true is = absurd cc
+no_reason false false false false false false false false false false is = (refl, refl)
 
 holds : (b : Bool) → not b ≡ false → b ≡ true
 holds true h = refl
 holds false h = absurd cc
 
--- names an actor that it may
-actor_accepted : (table : Table) (live : Bool) (before : Before) (line : Spelled) → refusal_of table live before line ≡ None
-    → if_there (is_actor before.edits) (actor_in line) ≡ true
-actor_accepted table live before line h =
-    holds (if_there (is_actor before.edits) (actor_in line)) (no_actor_reason (live && not (is_live line))
-    (not (is_in_range line)) (not live && not (if_there (has_joined before) (player_in line)))
+-- the line names an actor that it may, and isn't one too many
+accepted : (table : Table) (live : Bool) (before : Before) (line : Spelled) → refusal_of table live before line ≡ None
+    → (if_there (is_actor before.edits) (actor_in line) ≡ true) × (is_past_last before line ≡ false)
+accepted table live before line h =
+    let none =
+    no_reason (live && not (is_live line)) (not (is_in_range line))
+    (not live && not (if_there (has_joined before) (player_in line)))
     (is_some (joining_player line) && if_there (has_joined before) (joining_player line))
     (not (if_there (λ name. is_some (class_named table name)) (class_in line)))
     (not (if_there (is_actor before.edits) (actor_in line))) (is_none (named_in table before line))
     (not (if_there (λ (call : Call). goes_right line call.way) (call_in table before line)))
-    (not (has_value table before line)) (is_past_last before line) h)
-
--- and isn't one too many
-last_accepted : (table : Table) (live : Bool) (before : Before) (line : Spelled) → refusal_of table live before line ≡ None
-    → is_past_last before line ≡ false
-last_accepted table live before line h =
-    no_last_reason (live && not (is_live line))
-    (not (is_in_range line)) (not live && not (if_there (has_joined before) (player_in line)))
-    (is_some (joining_player line) && if_there (has_joined before) (joining_player line))
-    (not (if_there (λ name. is_some (class_named table name)) (class_in line)))
-    (not (if_there (is_actor before.edits) (actor_in line))) (is_none (named_in table before line))
-    (not (if_there (λ (call : Call). goes_right line call.way) (call_in table before line)))
-    (not (has_value table before line)) (is_past_last before line) h
+    (not (has_value table before line)) (is_past_last before line) h in
+    (holds (if_there (is_actor before.edits) (actor_in line)) none.0, none.1)
 
 -- ---- one more item
 
-get_at : {A : Type 0} (xs : List A) (a : A) (n : ℕ) → n ≡ length xs → slice_get (xs ++ a ∷ []) n ≡ Some a
+pub get_at : {A : Type 0} (xs : List A) (a : A) (n : ℕ) → n ≡ length xs → slice_get (xs ++ a ∷ []) n ≡ Some a
 get_at [] a zero h = refl
 get_at [] a (suc n) h = absurd (omega arith)
 get_at (x ∷ xs) a zero h = absurd (omega arith)
 get_at (x ∷ xs) a (suc n) h = get_at xs a n (omega arith)
 
-get_off : {A : Type 0} (xs : List A) (a : A) (n : ℕ) → nat_eq n (length xs) ≡ false
+pub get_off : {A : Type 0} (xs : List A) (a : A) (n : ℕ) → nat_eq n (length xs) ≡ false
     → slice_get (xs ++ a ∷ []) n ≡ slice_get xs n
 get_off [] a zero h = absurd (grind (arith, nat_tests))
 get_off [] a (suc n) h = refl
@@ -106,7 +83,7 @@ any_last f (y ∷ ys) x = ap (λ b. f y || b) (any_last f ys x) ∙ or_swap (f y
 abbrev pub killed : Actor → Actor
 killed a = record { class = a.class; alive = false }
 
-length-destroyed : (k : ℕ) (xs : List Actor) → length (destroyed_at k xs) ≡ length xs
+pub length-destroyed : (k : ℕ) (xs : List Actor) → length (destroyed_at k xs) ≡ length xs
 length-destroyed k [] = refl
 length-destroyed zero (x ∷ xs) = refl
 length-destroyed (suc k) (x ∷ xs) = let e = length-destroyed k xs in omega arith
@@ -235,21 +212,24 @@ pub after_is : (table : Table) (live : Bool) (kept : Kept) (before : Before) (li
     → Stands table (kept_after table kept (line_of table before line)) (after_spelled table before line)
 after_is table live kept before (Join version player budget) s h = joined_stands table kept before (natural player) s
 after_is table live kept before (Spawn class x y) s h =
-    spawned_stands table kept before (unwrap_or (class_named table class) 0) x y s
-    (last_accepted table live before (Spawn class x y) h)
+    let named = accepted table live before (Spawn class x y) h in
+    spawned_stands table kept before (unwrap_or (class_named table class) 0) x y s named.1
 after_is table live kept before (Destroy actor) s h =
+    let named = accepted table live before (Destroy actor) h in
     by_spawn (natural actor) refl (and_left (is_some (spawn_of before.edits (guid_of actor)))
-    (not (list_any (destroys (guid_of actor)) before.edits)) (actor_accepted table live before (Destroy actor) h))
+    (not (list_any (destroys (guid_of actor)) before.edits)) named.0)
   where
     by_spawn : (m : ℕ) → natural actor ≡ m → is_some (spawn_of before.edits (guid_of actor)) ≡ true
-        → Stands table (kept_after table kept (line_of table before (Destroy actor))) (after_spelled table before (Destroy actor))
+        → Stands table (kept_after table kept (line_of table before (Destroy actor)))
+        (after_spelled table before (Destroy actor))
     by_spawn zero e there =
         absurd (let f : false ≡ true = sym (ap is_some (none_at_0 before.edits))
         ∙ sym (ap (λ m. is_some (spawn_of before.edits (2 * m))) e) ∙ there in cc)
     by_spawn (suc k) e there =
         let half : 2 * natural actor / 2 - 1 ≡ k = grind (arith) in
         let guid : 2 * natural actor ≡ 2 * suc k = omega arith in
-        subst (λ n. Stands table (record kept { actors = destroyed_at n kept.actors }) (after_spelled table before (Destroy actor)))
+        subst (λ n. Stands table (record kept { actors = destroyed_at n kept.actors })
+        (after_spelled table before (Destroy actor)))
         (sym half)
         (subst (λ g. Stands table (record kept { actors = destroyed_at k kept.actors })
         (record { edits = world.Destroy g ∷ before.edits; joined = before.joined })) (sym guid)

@@ -15,6 +15,10 @@ abbrev pub joined : List Arg → Option (List Arg) → Option (List Arg)
 joined done None = None
 joined done (Some more) = Some (done ++ more)
 
+pub joined_none : (o : Option (List Arg)) → joined [] o ≡ o
+joined_none None = refl
+joined_none (Some args) = refl
+
 -- the arguments after the first, if it is there
 abbrev first_and : List Kind → Option (Arg × List Text) → Option (List Arg)
 first_and kinds None = None
@@ -32,7 +36,8 @@ first_is kind kinds (text ∷ texts) = by_first (arg_of kind text) (args_of kind
     by_first (Some a) None h = rw h refl
     by_first (Some a) (Some args) h = rw h refl
 
-joined_on : (done : List Arg) (a : Arg) (o : Option (List Arg)) → joined done (joined (a ∷ []) o) ≡ joined (done ++ a ∷ []) o
+joined_on : (done : List Arg) (a : Arg) (o : Option (List Arg))
+    → joined done (joined (a ∷ []) o) ≡ joined (done ++ a ∷ []) o
 joined_on done a None = refl
 joined_on done a (Some more) = ap (λ args. Some args) (sym (append_assoc done (a ∷ []) more))
 

@@ -1,12 +1,12 @@
 -- A number that counts as a lesser one is out of every range, and so is that one.
-use Rattle.std.proofs.Common.{◌≡◌, ℕ, ◌-◌, ◌≤◌, ◌<◌, min, refl, sym, ◌∙◌, ap, arith, Bool, true, false, ◌&&◌, nat_le, ◌^◌, Option, None, option_map, Result, Ok, Err, ℤ, pos, negsuc}
+use Rattle.std.proofs.Common.{◌≡◌, ℕ, ◌-◌, ◌<◌, min, refl, sym, ◌∙◌, ap, arith, Bool, true, false, ◌&&◌, nat_le, ◌^◌, None, option_map, Ok, Err, ℤ, pos, negsuc}
 use Rattle.std.specs.Prelude.{slice_get}
 use Rattle.std.specs.Bool.{if◌then◌else◌}
 use Rattle.std.proofs.lemmas.Bool.Decides.{nat_tests}
 use Rattle.protocol_model.specs.declared.LineWhy.TheVariants.{Range, NoActor}
 use Rattle.protocol_model.specs.Limits.{budget_limit, player_limit, spawn_limit, team_limit}
 use Rattle.protocol_model.specs.Payload.{natural}
-use Rattle.protocol_model.specs.Side.{Side, AtServer, AtClient}
+use Rattle.protocol_model.specs.Side.{AtServer, AtClient}
 use Rattle.protocol_model.specs.Value.{Table}
 use Rattle.script_model.specs.Script.{Spelled, Join, Spawn, Destroy, Set, Own, View, Add, Dormant, Wake, Flush, Switch, Team, Give, Tick, ClientTick, Deliver, DeliverNew, CallTo, CallAll, Dump, AskSettled, Forge}
 use Rattle.script_model.specs.ScriptRules.{is_from_to, is_coordinate, guid_of}
@@ -27,7 +27,8 @@ capped_in low high (negsuc n) make none few same = same (capped (negsuc n)) ∙ 
 capped_in low high (pos n) make none few same = by_test (nat_le n most_size) refl
   where
     by_test : (t : Bool) → nat_le n most_size ≡ t
-        → make (is_from_to low high (pos (min most_size n))) (pos (min most_size n)) ≡ make (is_from_to low high (pos n)) (pos n)
+        → make (is_from_to low high (pos (min most_size n))) (pos (min most_size n))
+        ≡ make (is_from_to low high (pos n)) (pos n)
     by_test true h = let e : min most_size n ≡ n = grind (arith, nat_tests) in rw e refl
     by_test false h =
         let e : min most_size n ≡ most_size = grind (arith, nat_tests) in
@@ -40,11 +41,13 @@ capped_in low high (pos n) make none few same = by_test (nat_le n most_size) ref
 
 player_capped : (z : ℤ) → player_of (capped z) ≡ player_of z
 unfolding player_of
-player_capped z = capped_in 1 player_limit z (λ b z. if b then Ok (natural z) else Err Range) (Err Range) (omega arith) (λ z. refl)
+player_capped z =
+    capped_in 1 player_limit z (λ b z. if b then Ok (natural z) else Err Range) (Err Range) (omega arith) (λ z. refl)
 
 within_capped : (low high : ℕ) (z : ℤ) → high < most_size → within low high (capped z) ≡ within low high z
 unfolding within
-within_capped low high z few = capped_in low high z (λ b z. if b then Ok (natural z) else Err Range) (Err Range) few (λ z. refl)
+within_capped low high z few =
+    capped_in low high z (λ b z. if b then Ok (natural z) else Err Range) (Err Range) few (λ z. refl)
 
 actor_capped : (kept : Kept) (destroyed : Bool) (z : ℤ) → actor_of kept destroyed (capped z) ≡ actor_of kept destroyed z
 unfolding actor_of

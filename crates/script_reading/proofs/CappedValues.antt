@@ -1,11 +1,10 @@
 -- A number that counts as a lesser one is no value of any kind, and neither is that one.
-use Rattle.std.proofs.Common.{◌≡◌, ℕ, ◌-◌, ◌≤◌, ◌<◌, ◌^◌, min, refl, sym, ◌∙◌, ap, arith, Bool, true, false, nat_lt, nat_le, Option, Some, None, option_map, option_and_then, Result, Ok, Err, ℤ, pos, negsuc}
+use Rattle.std.proofs.Common.{◌≡◌, ℕ, ◌-◌, ◌≤◌, ◌^◌, min, refl, sym, ◌∙◌, ap, arith, Bool, true, false, nat_lt, nat_le, Option, Some, None, option_map, option_and_then, Result, Ok, Err, ℤ, pos, negsuc}
 use Rattle.std.specs.Bool.{then_some}
 use Rattle.std.specs.Option.{ok_or}
 use Rattle.std.proofs.lemmas.Bool.Decides.{nat_tests}
 use Rattle.protocol_model.specs.declared.Kind.{Kind}
 use Rattle.protocol_model.specs.declared.Kind.TheVariants.{U8, I32, U32, I64, Packed, Guid, Enum, Bytes}
-use Rattle.protocol_model.specs.declared.Kind.TheVariants as Kind
 use Rattle.protocol_model.specs.declared.LineWhy.{LineWhy}
 use Rattle.protocol_model.specs.declared.LineWhy.TheVariants as why
 use Rattle.protocol_model.specs.Value.{Arg, Scalar, fits, is_below, is_within}

@@ -1,8 +1,6 @@
 -- Classes, properties and calls in memory are those of the table that they stand for.
-use Rattle.std.proofs.Common.{◌≡◌, ℕ, zero, suc, ◌+◌, ◌≤◌, ◌<◌, List, [], ◌∷◌, ◌++◌, map, length, refl, sym, ◌∙◌, ap, subst, arith, Bool, true, false, not, ◌&&◌, ◌||◌, ◌==◌, nat_lt, get_or, Option, Some, None, option_map, cond, Result, Ok, Err, Bor, codes}
-use Rattle.std.specs.Prelude.{slice_get, slice_index_or, position}
-use Rattle.std.specs.List.{position_or_len}
-use Rattle.std.specs.Option.{option_copied, ok_or}
+use Rattle.std.proofs.Common.{◌≡◌, ℕ, zero, suc, ◌+◌, ◌≤◌, ◌<◌, List, [], ◌∷◌, ◌++◌, map, length, refl, sym, ◌∙◌, ap, subst, arith, Bool, true, false, nat_lt, Some, None, option_map, cond}
+use Rattle.std.specs.Prelude.{slice_get, slice_index_or}
 use Rattle.std.specs.Str.{bytes_eq}
 use Rattle.std.proofs.lemmas.Bool.Decides.{nat_tests}
 use Rattle.std.proofs.lemmas.List.{length-map}
@@ -31,7 +29,8 @@ pub class_there : (layout : Layout) (n : ℕ) (c : Class) → Some c ≡ slice_g
     → class_of layout.segments c ≡ class_at (table_in layout) n
 class_there layout n c h = sym (class_in_memory layout.segments layout.classes n c (sym h))
 
-pub no_class_there : (layout : Layout) (n : ℕ) → None ≡ slice_get layout.classes n → no_class ≡ class_at (table_in layout) n
+pub no_class_there : (layout : Layout) (n : ℕ) → None ≡ slice_get layout.classes n
+    → no_class ≡ class_at (table_in layout) n
 no_class_there layout n h = sym (none_there layout.segments layout.classes n (sym h))
 
 pub count_is : (layout : Layout) → length (table_in layout) ≡ length layout.classes
@@ -78,14 +77,16 @@ class_facts layout n c is h =
     let s = split_at (entries_in layout) n (entry_of layout.segments c) e in
     (s.0, is.classes s.0 (entry_of layout.segments c) s.1 s.2)
 
-pub few_props : (layout : Layout) (n : ℕ) (c : Class) → IsTable (entries_in layout) → Some c ≡ slice_get layout.classes n
+pub few_props : (layout : Layout) (n : ℕ) (c : Class) → IsTable (entries_in layout)
+    → Some c ≡ slice_get layout.classes n
     → length c.props ≤ 200
 few_props layout n c is h =
     let facts = class_facts layout n c is h in
     let handles = facts.1.handles in
     let len = length-map c.props prop_of in omega arith
 
-pub few_calls : (layout : Layout) (n : ℕ) (c : Class) → IsTable (entries_in layout) → Some c ≡ slice_get layout.classes n
+pub few_calls : (layout : Layout) (n : ℕ) (c : Class) → IsTable (entries_in layout)
+    → Some c ≡ slice_get layout.classes n
     → length c.calls ≤ 64
 few_calls layout n c is h =
     let facts = class_facts layout n c is h in

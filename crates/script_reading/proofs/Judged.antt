@@ -1,5 +1,5 @@
 -- What a line comes to, one thing after another, is the first reason of the chain that holds against it.
-use Rattle.std.proofs.Common.{◌≡◌, ℕ, suc, ◌+◌, List, [], length, refl, sym, ◌∙◌, ap, Bool, true, false, not, ◌&&◌, ◌||◌, nat_le, Option, Some, None, is_some, is_none, unwrap_or, option_map, Result, Ok, Err, ℤ, pos}
+use Rattle.std.proofs.Common.{◌≡◌, ℕ, refl, Bool, true, false, not, ◌&&◌, ◌||◌, Option, Some, None, is_some, is_none, unwrap_or, Result, Ok, Err, ℤ}
 use Rattle.std.specs.Bool.{if◌then◌else◌}
 use Rattle.std.specs.Option.{ok_or}
 use Rattle.protocol_model.specs.declared.LineWhy.{LineWhy}
@@ -84,7 +84,8 @@ view_rule false true false t n x y make = refl
 view_rule false false s t n x y make = refl
 
 pub spawn_rule : (l s t f : Bool) (o : Option ℕ) (x y : ℤ) (make : ℕ → ℤ → ℤ → Line)
-    → (ranged s x >>= (λ x. ranged t y >>= (λ y. ok_or o NoClass >>= (λ n. must (not f) Full >>= (λ _. Ok (make n x y))))))
+    → (ranged s x >>= (λ x. ranged t y
+    >>= (λ y. ok_or o NoClass >>= (λ n. must (not f) Full >>= (λ _. Ok (make n x y))))))
     ≡ outcome (chain (l && false) (not (s && t)) (not l && false) false (not (is_some o)) false false false false f)
     (make (unwrap_or o 0) x y)
 spawn_rule true true true true (Some n) x y make = refl
@@ -120,7 +121,8 @@ pub joined_rule : (l r : Bool) (kept_in in_before : ℕ → Bool) (n : ℕ) (mak
     → kept_in n ≡ in_before n
     → (must (not l) Place >>= (λ _. ranged r n >>= (λ p. must (l || kept_in p) NoPlayer >>= (λ _. Ok p)))
     >>= (λ p. Ok (make p)))
-    ≡ outcome (chain (l && true) (not r) (not l && not (in_before n)) false false false false false false false) (make n)
+    ≡ outcome (chain (l && true) (not r) (not l && not (in_before n)) false false false false false false false)
+    (make n)
 joined_rule true r ki ib n make same = refl
 joined_rule false false ki ib n make same = refl
 joined_rule false true ki ib n make same = rw same (by_joined (ib n))

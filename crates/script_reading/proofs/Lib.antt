@@ -12,3 +12,5 @@ pub mod Keeping
 pub mod ArgumentSteps
 pub mod Scripts
 pub mod Whole
+pub mod Tags
+pub mod Telling

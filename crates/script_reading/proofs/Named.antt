@@ -1,10 +1,9 @@
 -- Names that are found have their property or call.
-use Rattle.std.proofs.Common.{◌≡◌, ℕ, zero, suc, ◌+◌, List, [], ◌∷◌, map, length, refl, sym, ◌∙◌, ap, subst, arith, Bool, true, false, not, ◌&&◌, ◌==◌, nat_lt, ◌<◌, Option, Some, None, option_map, option_and_then, cond, Result, Ok, Err, ℤ}
+use Rattle.std.proofs.Common.{◌≡◌, ℕ, zero, suc, ◌+◌, List, [], ◌∷◌, length, refl, ◌∙◌, subst, arith, Bool, true, false, not, ◌&&◌, ◌==◌, nat_lt, ◌<◌, Option, Some, None, option_map, option_and_then, cond}
 use Rattle.std.specs.Prelude.{slice_get, position}
 use Rattle.std.specs.List.{position_or_len}
 use Rattle.std.specs.Bool.{then_some}
 use Rattle.std.proofs.lemmas.Bool.Decides.{nat_tests}
-use Rattle.std.specs.Option.{ok_or}
 use Rattle.std.specs.Str.{bytes_eq}
 use Rattle.std.proofs.lemmas.Option.{same_Some}
 use Rattle.protocol_model.specs.Value.{Class, Prop, Call, prop_at, call_at, props_of}

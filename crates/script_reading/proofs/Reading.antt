@@ -1,10 +1,10 @@
 -- The lines of a script by what is kept are those that the rules of every script read.
-use Rattle.std.proofs.Common.{◌≡◌, ℕ, ◌+◌, List, [], ◌∷◌, length, refl, sym, ◌∙◌, ap, Bool, true, false, not, nat_lt, Option, Some, None, Result, Ok, Err}
+use Rattle.std.proofs.Common.{◌≡◌, ℕ, ◌+◌, List, [], ◌∷◌, length, refl, ap, Bool, true, false, nat_lt, Option, Some, None}
 use Rattle.std.specs.List.{list_all}
 use Rattle.protocol_model.specs.declared.LineWhy.{LineWhy}
 use Rattle.protocol_model.specs.Limits.{line_bytes}
 use Rattle.protocol_model.specs.Value.{Table}
-use Rattle.script_model.specs.Lines.{Line, Text}
+use Rattle.script_model.specs.Lines.{Text}
 use Rattle.script_model.specs.Script.{Spelled, spelled_of}
 use Rattle.script_model.specs.ScriptRules.{Before, refusal_of, line_of, after_spelled, does_nothing, lines_from, cons_ok}
 use Rattle.script_reading.specs.Kept.{Kept, kept_after}
@@ -28,7 +28,8 @@ step table live kept before n text texts s same later = by_long (nat_lt line_byt
         → list_all (λ c. nat_lt c 128) text ≡ true → does_nothing text ≡ false → spelled_of text ≡ Some line
         → judged table live kept line ≡ outcome r (line_of table before line) → refusal_of table live before line ≡ r
         → lines_by table live kept n (text ∷ texts) ≡ lines_from table live before n (text ∷ texts)
-    by_refusal line None a b c d e f = rw (a, b, c, d, e, f, lines_by, lines_from) (ap (cons_ok (line_of table before line)) (later line f))
+    by_refusal line None a b c d e f =
+        rw (a, b, c, d, e, f, lines_by, lines_from) (ap (cons_ok (line_of table before line)) (later line f))
     by_refusal line (Some why) a b c d e f = rw (a, b, c, d, e, f, lines_by, lines_from) refl
 
     by_spelled : (o : Option Spelled) → nat_lt line_bytes (length text) ≡ false
@@ -59,5 +60,6 @@ pub lines_is : (table : Table) (live : Bool) (kept : Kept) (before : Before) (n 
 lines_is table live kept before n [] s = refl
 lines_is table live kept before n (text ∷ texts) s =
     step table live kept before n text texts s (lines_is table live kept before (n + 1) texts s)
-    (λ line none. lines_is table live (kept_after table kept (line_of table before line)) (after_spelled table before line)
+    (λ line none. lines_is table live (kept_after table kept (line_of table before line))
+    (after_spelled table before line)
     (n + 1) texts (after_is table live kept before line s none))

@@ -1,6 +1,6 @@
 -- What each line comes to by what is kept is what the rules of every script say of it.
-use Rattle.std.proofs.Common.{◌≡◌, ℕ, suc, ◌+◌, List, [], length, refl, sym, ◌∙◌, ap, Bool, true, false, not, ◌&&◌, ◌||◌, ◌==◌, nat_le, Option, Some, None, is_some, is_none, unwrap_or, option_map, option_and_then, Result, Ok, Err, ℤ, pos}
-use Rattle.std.specs.Bool.{if◌then◌else◌, then_some}
+use Rattle.std.proofs.Common.{◌≡◌, ℕ, List, [], length, refl, ◌∙◌, Bool, true, false, not, ◌&&◌, ◌||◌, nat_le, Option, Some, None, is_some, is_none, unwrap_or, option_and_then, Result, Ok, ℤ, pos}
+use Rattle.std.specs.Bool.{then_some}
 use Rattle.std.specs.Option.{ok_or}
 use Rattle.protocol_model.specs.declared.LineWhy.{LineWhy}
 use Rattle.protocol_model.specs.declared.LineWhy.TheVariants.{Place, Range, NoPlayer, Taken, NoClass, NoActor, NoName, Full}
@@ -10,7 +10,7 @@ use Rattle.protocol_model.specs.declared.Way.TheVariants.{Server, Client, Multic
 use Rattle.protocol_model.specs.Limits.{budget_limit, connection_limit, player_limit, spawn_limit, team_limit}
 use Rattle.protocol_model.specs.Payload.{natural}
 use Rattle.protocol_model.specs.Search.{is_among}
-use Rattle.protocol_model.specs.Side.{Side, AtServer, AtClient}
+use Rattle.protocol_model.specs.Side.{AtServer, AtClient}
 use Rattle.protocol_model.specs.Value.{Table, Class, Prop, Call, Arg, fits, prop_at, call_at, goes_up}
 use Rattle.protocol_model.specs.World as world
 use Rattle.protocol_model.specs.World.{spawn_count}
@@ -20,7 +20,7 @@ use Rattle.script_model.specs.Script.{Spelled, Join, Spawn, Destroy, Set, Own, V
 use Rattle.script_model.specs.ScriptRules as rules
 use Rattle.script_model.specs.ScriptRules.{Before, is_from_to, is_player, is_coordinate, guid_of, is_actor, class_named, class_at_line, settable_handle, switchable_handle, call_named, args_of, goes_right, refusal_of, line_of, if_there}
 use Rattle.script_reading.specs.Kept.{Kept}
-use Rattle.script_reading.specs.Judging.{judged, must, not_live, player_of, within, coordinate_of, must_join, may_join, may_spawn, joined_in, numbered_in, actor_of, class_of, settable_of, value_of, switchable_of, called_of, args_in, is_multicast, edit_in, ◌>>=◌}
+use Rattle.script_reading.specs.Judging.{judged, must, not_live, player_of, within, coordinate_of, must_join, may_join, may_spawn, joined_in, numbered_in, class_of, settable_of, value_of, switchable_of, called_of, args_in, is_multicast, ◌>>=◌}
 use Rattle.script_reading.specs.Stands.{Stands}
 use Rattle.script_reading.proofs.Judged.{chain, outcome, ruled, found, ranged, edit_rule, ranged_edit_rule, two_ranged_rule, view_rule, spawn_rule, join_rule, joined_rule, numbered_rule, settled_rule, switch_rule}
 use Rattle.script_reading.proofs.Named.{Is_there, settable_there, call_there}
@@ -81,17 +81,27 @@ set_rule false false g c name text make = refl
 -- ---- calls
 
 -- the call of a name, which goes the right way, and its arguments
-call_tail : (class : Class) (name : Text) (args : List Text) (goes right : Way → Bool) (make : ℕ → List Arg → Line)
-    → ((way : Way) → goes way ≡ right way)
-    → (called_of class name (length args) >>= (λ called. must (goes called.1.way) why.Kind >>= (λ _.
-    args_in called.1 args >>= (λ values. Ok (make called.0 values)))))
-    ≡ outcome (chain false false false false false false (is_none (call_named class name (length args)))
-    (not (if_there (λ (call : Call). right call.way) (option_and_then (call_at class) (call_named class name (length args)))))
+abbrev called_and : Class → Text → List Text → (goes : Way → Bool) → (make : ℕ → List Arg → Line) → Result Line LineWhy
+called_and class name args goes make =
+    called_of class name (length args) >>= (λ called. must (goes called.1.way) why.Kind >>= (λ _.
+    args_in called.1 args >>= (λ values. Ok (make called.0 values))))
+
+-- what the rules say of it, after the place, the range, the player and the actor
+abbrev call_outcome : (place range player actor : Bool) → Class → Text → List Text → (right : Way → Bool)
+    → (make : ℕ → List Arg → Line) → Result Line LineWhy
+call_outcome a b c f class name args right make =
+    outcome (chain a b c false false f (is_none (call_named class name (length args)))
+    (not (if_there (λ (call : Call). right call.way)
+    (option_and_then (call_at class) (call_named class name (length args)))))
     (not (if_there (λ (call : Call). is_some (args_of call.args args))
     (option_and_then (call_at class) (call_named class name (length args))))) false)
     (make (unwrap_or (call_named class name (length args)) 0)
     (unwrap_or (option_and_then (λ (call : Call). args_of call.args args)
     (option_and_then (call_at class) (call_named class name (length args)))) []))
+
+call_tail : (class : Class) (name : Text) (args : List Text) (goes right : Way → Bool) (make : ℕ → List Arg → Line)
+    → ((way : Way) → goes way ≡ right way)
+    → called_and class name args goes make ≡ call_outcome false false false false class name args right make
 unfolding called_of args_in
 call_tail class name args goes right make same = by_name (call_named class name (length args)) refl
   where
@@ -104,113 +114,62 @@ call_tail class name args goes right make same = by_name (call_named class name 
     by_args n false o = refl
 
     by_call : (n : ℕ) → call_named class name (length args) ≡ Some n → Is_there (call_at class n)
-        → (called_of class name (length args) >>= (λ called. must (goes called.1.way) why.Kind >>= (λ _.
-        args_in called.1 args >>= (λ values. Ok (make called.0 values)))))
-        ≡ outcome (chain false false false false false false (is_none (call_named class name (length args)))
-        (not (if_there (λ (call : Call). right call.way) (option_and_then (call_at class) (call_named class name (length args)))))
-        (not (if_there (λ (call : Call). is_some (args_of call.args args))
-        (option_and_then (call_at class) (call_named class name (length args))))) false)
-        (make (unwrap_or (call_named class name (length args)) 0)
-        (unwrap_or (option_and_then (λ (call : Call). args_of call.args args)
-        (option_and_then (call_at class) (call_named class name (length args)))) []))
+        → called_and class name args goes make ≡ call_outcome false false false false class name args right make
     by_call n e there = rw (e, there.1, same there.0.way) (by_args n (right there.0.way) (args_of there.0.args args))
 
     by_name : (o : Option ℕ) → call_named class name (length args) ≡ o
-        → (called_of class name (length args) >>= (λ called. must (goes called.1.way) why.Kind >>= (λ _.
-        args_in called.1 args >>= (λ values. Ok (make called.0 values)))))
-        ≡ outcome (chain false false false false false false (is_none (call_named class name (length args)))
-        (not (if_there (λ (call : Call). right call.way) (option_and_then (call_at class) (call_named class name (length args)))))
-        (not (if_there (λ (call : Call). is_some (args_of call.args args))
-        (option_and_then (call_at class) (call_named class name (length args))))) false)
-        (make (unwrap_or (call_named class name (length args)) 0)
-        (unwrap_or (option_and_then (λ (call : Call). args_of call.args args)
-        (option_and_then (call_at class) (call_named class name (length args)))) []))
+        → called_and class name args goes make ≡ call_outcome false false false false class name args right make
     by_name None e = rw e refl
     by_name (Some n) e = by_call n e (call_there class name (length args) n e)
 
 -- after the actor was found, or not
 multi_rule : (l a : Bool) (g : ℕ) (c : Class) (name : Text) (args : List Text) (goes right : Way → Bool)
     (make : ℕ → ℕ → List Arg → Line) → ((way : Way) → goes way ≡ right way)
-    → (found a g c >>= (λ x. (called_of x.1 name (length args) >>= (λ called. must (goes called.1.way) why.Kind >>= (λ _.
-    args_in called.1 args >>= (λ values. Ok (make x.0 called.0 values)))))))
-    ≡ outcome (chain (l && false) false (not l && false) false false (not a)
-    (is_none (call_named c name (length args)))
-    (not (if_there (λ (call : Call). right call.way) (option_and_then (call_at c) (call_named c name (length args)))))
-    (not (if_there (λ (call : Call). is_some (args_of call.args args))
-    (option_and_then (call_at c) (call_named c name (length args))))) false)
-    (make g (unwrap_or (call_named c name (length args)) 0)
-    (unwrap_or (option_and_then (λ (call : Call). args_of call.args args)
-    (option_and_then (call_at c) (call_named c name (length args)))) []))
+    → (found a g c >>= (λ x. called_and x.1 name args goes (make x.0)))
+    ≡ call_outcome (l && false) false (not l && false) (not a) c name args right (make g)
 multi_rule true true g c name args goes right make same = call_tail c name args goes right (make g) same
 multi_rule true false g c name args goes right make same = refl
 multi_rule false true g c name args goes right make same = call_tail c name args goes right (make g) same
 multi_rule false false g c name args goes right make same = refl
 
+-- and the player joined before, or not
+joined_call : (j a : Bool) (n g : ℕ) (c : Class) (name : Text) (args : List Text) (goes right : Way → Bool)
+    (make : ℕ → ℕ → ℕ → List Arg → Line) → ((way : Way) → goes way ≡ right way)
+    → (must j NoPlayer >>= (λ _. found a g c >>= (λ x. called_and x.1 name args goes (make n x.0))))
+    ≡ call_outcome false false (not j) (not a) c name args right (make n g)
+joined_call false a n g c name args goes right make same = refl
+joined_call true a n g c name args goes right make same = multi_rule false a g c name args goes right (make n) same
+
 -- a server's call may be of any player in a live script
 call_rule : (l r a : Bool) (kept_in in_before : ℕ → Bool) (n g : ℕ) (c : Class) (name : Text) (args : List Text)
     (goes right : Way → Bool) (make : ℕ → ℕ → ℕ → List Arg → Line) → kept_in n ≡ in_before n
     → ((way : Way) → goes way ≡ right way)
-    → (ranged r n >>= (λ p. must (l || kept_in p) NoPlayer >>= (λ _. found a g c >>= (λ x. (called_of x.1 name (length args) >>= (λ called. must (goes called.1.way) why.Kind >>= (λ _.
-    args_in called.1 args >>= (λ values. Ok (make p x.0 called.0 values)))))))))
-    ≡ outcome (chain (l && false) (not r) (not l && not (in_before n)) false false (not a)
-    (is_none (call_named c name (length args)))
-    (not (if_there (λ (call : Call). right call.way) (option_and_then (call_at c) (call_named c name (length args)))))
-    (not (if_there (λ (call : Call). is_some (args_of call.args args))
-    (option_and_then (call_at c) (call_named c name (length args))))) false)
-    (make n g (unwrap_or (call_named c name (length args)) 0)
-    (unwrap_or (option_and_then (λ (call : Call). args_of call.args args)
-    (option_and_then (call_at c) (call_named c name (length args)))) []))
+    → (ranged r n >>= (λ p. must (l || kept_in p) NoPlayer
+    >>= (λ _. found a g c >>= (λ x. called_and x.1 name args goes (make p x.0)))))
+    ≡ call_outcome (l && false) (not r) (not l && not (in_before n)) (not a) c name args right (make n g)
 call_rule true false a ki ib n g c name args goes right make joined same = refl
 call_rule true true a ki ib n g c name args goes right make joined same =
     multi_rule true a g c name args goes right (make n) same
 call_rule false false a ki ib n g c name args goes right make joined same = refl
-call_rule false true a ki ib n g c name args goes right make joined same = rw joined (by_joined (ib n))
-  where
-    by_joined : (j : Bool)
-        → (must j NoPlayer >>= (λ _. found a g c >>= (λ x. (called_of x.1 name (length args) >>= (λ called. must (goes called.1.way) why.Kind >>= (λ _.
-        args_in called.1 args >>= (λ values. Ok (make n x.0 called.0 values))))))))
-        ≡ outcome (chain (false) false (not j) false false (not a)
-        (is_none (call_named c name (length args)))
-        (not (if_there (λ (call : Call). right call.way) (option_and_then (call_at c) (call_named c name (length args)))))
-        (not (if_there (λ (call : Call). is_some (args_of call.args args))
-        (option_and_then (call_at c) (call_named c name (length args))))) false)
-        (make n g (unwrap_or (call_named c name (length args)) 0)
-        (unwrap_or (option_and_then (λ (call : Call). args_of call.args args)
-        (option_and_then (call_at c) (call_named c name (length args)))) []))
-    by_joined false = refl
-    by_joined true = multi_rule false a g c name args goes right (make n) same
+call_rule false true a ki ib n g c name args goes right make joined same =
+    rw joined (joined_call (ib n) a n g c name args goes right make same)
+
+must_then : {A : Type 0} (j : Bool) (n : ℕ) (after : ℕ → Result A LineWhy)
+    → (must j NoPlayer >>= (λ _. Ok n) >>= after) ≡ (must j NoPlayer >>= (λ _. after n))
+must_then true n after = refl
+must_then false n after = refl
 
 client_call_rule : (l r a : Bool) (kept_in in_before : ℕ → Bool) (n g : ℕ) (c : Class) (name : Text) (args : List Text)
     (goes right : Way → Bool) (make : ℕ → ℕ → ℕ → List Arg → Line) → kept_in n ≡ in_before n
     → ((way : Way) → goes way ≡ right way)
     → (must (not l) Place >>= (λ _. ranged r n >>= (λ p. must (l || kept_in p) NoPlayer >>= (λ _. Ok p)))
-    >>= (λ p. found a g c >>= (λ x. (called_of x.1 name (length args) >>= (λ called. must (goes called.1.way) why.Kind >>= (λ _.
-    args_in called.1 args >>= (λ values. Ok (make p x.0 called.0 values))))))))
-    ≡ outcome (chain (l && true) (not r) (not l && not (in_before n)) false false (not a)
-    (is_none (call_named c name (length args)))
-    (not (if_there (λ (call : Call). right call.way) (option_and_then (call_at c) (call_named c name (length args)))))
-    (not (if_there (λ (call : Call). is_some (args_of call.args args))
-    (option_and_then (call_at c) (call_named c name (length args))))) false)
-    (make n g (unwrap_or (call_named c name (length args)) 0)
-    (unwrap_or (option_and_then (λ (call : Call). args_of call.args args)
-    (option_and_then (call_at c) (call_named c name (length args)))) []))
+    >>= (λ p. found a g c >>= (λ x. called_and x.1 name args goes (make p x.0))))
+    ≡ call_outcome (l && true) (not r) (not l && not (in_before n)) (not a) c name args right (make n g)
 client_call_rule true r a ki ib n g c name args goes right make joined same = refl
 client_call_rule false false a ki ib n g c name args goes right make joined same = refl
-client_call_rule false true a ki ib n g c name args goes right make joined same = rw joined (by_joined (ib n))
-  where
-    by_joined : (j : Bool)
-        → (must j NoPlayer >>= (λ _. Ok n) >>= (λ p. found a g c >>= (λ x. (called_of x.1 name (length args) >>= (λ called. must (goes called.1.way) why.Kind >>= (λ _.
-        args_in called.1 args >>= (λ values. Ok (make p x.0 called.0 values))))))))
-        ≡ outcome (chain (false) false (not j) false false (not a)
-        (is_none (call_named c name (length args)))
-        (not (if_there (λ (call : Call). right call.way) (option_and_then (call_at c) (call_named c name (length args)))))
-        (not (if_there (λ (call : Call). is_some (args_of call.args args))
-        (option_and_then (call_at c) (call_named c name (length args))))) false)
-        (make n g (unwrap_or (call_named c name (length args)) 0)
-        (unwrap_or (option_and_then (λ (call : Call). args_of call.args args)
-        (option_and_then (call_at c) (call_named c name (length args)))) []))
-    by_joined false = refl
-    by_joined true = multi_rule false a g c name args goes right (make n) same
+client_call_rule false true a ki ib n g c name args goes right make joined same =
+    rw joined (must_then (ib n) n (λ p. found a g c >>= (λ x. called_and x.1 name args goes (make p x.0)))
+    ∙ joined_call (ib n) a n g c name args goes right make same)
 
 -- a call to every player is a multicast
 multicasts : (actor : ℤ) (name : Text) (args : List Text) (way : Way)
@@ -221,9 +180,11 @@ multicasts actor name args Multicast = refl
 
 -- ---- every kind
 
-pub judged_is : (table : Table) (live : Bool) (kept : Kept) (before : Before) (line : Spelled) → Stands table kept before
+pub judged_is : (table : Table) (live : Bool) (kept : Kept) (before : Before) (line : Spelled)
+    → Stands table kept before
     → judged table live kept line ≡ ruled table live before line
-unfolding not_live player_of within coordinate_of must_join may_join may_spawn joined_in numbered_in class_of switchable_of
+unfolding not_live player_of within coordinate_of must_join may_join may_spawn joined_in numbered_in class_of
+    switchable_of
 judged_is table live kept before (Join version player budget) s =
     rw s.joined (join_rule live (is_player player) (is_from_to 1 budget_limit budget) (λ p. is_among p kept.players)
     (λ p. is_among p before.joined) (nat_le connection_limit (length before.joined)) (natural player) (natural budget)
@@ -233,16 +194,20 @@ judged_is table live kept before (Spawn class x y) s =
     (class_named table class) x y (λ n x y. story.ApplyEdit (world.Spawn n x y)))
 judged_is table live kept before (Destroy actor) s =
     rw (actor_is table kept before false actor s)
-    (edit_rule live (is_actor before.edits (actor, false)) (guid_of actor) (class_at_line table before actor) world.Destroy)
+    (edit_rule live (is_actor before.edits (actor, false)) (guid_of actor)
+    (class_at_line table before actor) world.Destroy)
 judged_is table live kept before (Dormant actor) s =
     rw (actor_is table kept before false actor s)
-    (edit_rule live (is_actor before.edits (actor, false)) (guid_of actor) (class_at_line table before actor) world.Dormant)
+    (edit_rule live (is_actor before.edits (actor, false)) (guid_of actor)
+    (class_at_line table before actor) world.Dormant)
 judged_is table live kept before (Wake actor) s =
     rw (actor_is table kept before false actor s)
-    (edit_rule live (is_actor before.edits (actor, false)) (guid_of actor) (class_at_line table before actor) world.Wake)
+    (edit_rule live (is_actor before.edits (actor, false)) (guid_of actor)
+    (class_at_line table before actor) world.Wake)
 judged_is table live kept before (Flush actor) s =
     rw (actor_is table kept before false actor s)
-    (edit_rule live (is_actor before.edits (actor, false)) (guid_of actor) (class_at_line table before actor) world.Flush)
+    (edit_rule live (is_actor before.edits (actor, false)) (guid_of actor)
+    (class_at_line table before actor) world.Flush)
 judged_is table live kept before (Set actor name text) s =
     rw (actor_is table kept before false actor s)
     (set_rule live (is_actor before.edits (actor, false)) (guid_of actor) (class_at_line table before actor) name text

@@ -1,17 +1,16 @@
 -- What is kept stands for the lines before, from one line to the next.
-use Rattle.std.proofs.Common.{◌≡◌, ℕ, zero, suc, ◌+◌, ◌-◌, ◌*◌, ◌/◌, ◌≤◌, ◌<◌, List, [], ◌∷◌, ◌++◌, length, refl, sym, ◌∙◌, ap, subst, arith, Bool, true, false, not, ◌&&◌, ◌||◌, ◌==◌, nat_le, nat_eq, Option, Some, None, is_some, option_map, cond, Result, Ok, Err, ℤ, pos, negsuc}
+use Rattle.std.proofs.Common.{◌≡◌, ℕ, zero, suc, ◌+◌, ◌-◌, ◌*◌, ◌≤◌, List, [], ◌∷◌, length, refl, sym, ◌∙◌, ap, arith, Bool, true, false, not, ◌||◌, nat_eq, Option, Some, None, option_map, cond, Err, ℤ, pos, negsuc}
 use Rattle.std.specs.Prelude.{slice_get}
-use Rattle.std.specs.Bool.{if◌then◌else◌}
 use Rattle.std.specs.List.{list_any}
 use Rattle.std.proofs.lemmas.Bool.Decides.{nat_tests}
 use Rattle.std.proofs.lemmas.Option.{slice_get_past}
 use Rattle.protocol_model.specs.declared.LineWhy.TheVariants.{NoActor}
 use Rattle.protocol_model.specs.Limits.{spawn_limit}
-use Rattle.protocol_model.specs.Value.{Table, Class}
+use Rattle.protocol_model.specs.Value.{Table}
 use Rattle.protocol_model.specs.World as world
 use Rattle.protocol_model.specs.World.{Edits, Edit, Spawned, spawn_count, spawn_of, class_at, destroys, lives}
 use Rattle.script_model.specs.ScriptRules.{Before, is_actor, guid_of, class_at_line, is_from_to}
-use Rattle.script_reading.specs.Kept.{Kept, Actor, nothing, actor_at}
+use Rattle.script_reading.specs.Kept.{Kept, Actor}
 use Rattle.script_reading.specs.Judging.{actor_of, allowed}
 use Rattle.script_reading.specs.Stands.{Stands, seen_at, seen_in}
 use Rattle.script_reading.proofs.Judged.{found}
@@ -34,8 +33,10 @@ none_at_0 (world.Team p t ∷ edits) = none_at_0 edits
 none_at_0 (world.Give a t ∷ edits) = none_at_0 edits
 
 -- an actor that wasn't spawned may not be named
-absent : (table : Table) (edits : Edits) (joined : List ℕ) (destroyed : Bool) (z : ℤ) → spawn_of edits (guid_of z) ≡ None
-    → Err NoActor ≡ found (is_actor edits (z, destroyed)) (guid_of z) (class_at_line table (record { edits = edits; joined = joined }) z)
+absent : (table : Table) (edits : Edits) (joined : List ℕ) (destroyed : Bool) (z : ℤ)
+    → spawn_of edits (guid_of z) ≡ None
+    → Err NoActor ≡ found (is_actor edits (z, destroyed)) (guid_of z)
+    (class_at_line table (record { edits = edits; joined = joined }) z)
 absent table edits joined true z h = rw h refl
 absent table edits joined false z h = rw h refl
 
@@ -82,7 +83,8 @@ actor_is table kept before destroyed (pos (suc n)) s = by_test (is_from_to 1 spa
     by_spawn (Some spawned) h e = rw e (present table before destroyed (suc n) spawned h)
 
     by_test : (t : Bool) → is_from_to 1 spawn_limit (pos (suc n)) ≡ t
-        → allowed destroyed (cond t (option_map (λ (a : Actor). (2 * suc n, a)) (slice_get kept.actors (suc n - 1))) None)
+        → allowed destroyed (cond t (option_map (λ (a : Actor). (2 * suc n, a))
+        (slice_get kept.actors (suc n - 1))) None)
         ≡ found (is_actor before.edits (pos (suc n), destroyed)) (2 * suc n) (class_at_line table before (pos (suc n)))
     by_test true h = by_spawn (spawn_of before.edits (2 * suc n)) refl kept_is
     by_test false h =

@@ -3,7 +3,6 @@ use Rattle.std.proofs.Common.{◌≡◌, ℕ, ◌+◌, ◌<◌, ◌≤◌, List,
 use Rattle.std.specs.Prelude.{option_to_list}
 use Rattle.std.proofs.lemmas.List.{map-append}
 use Rattle.protocol_model.specs.declared.LineWhy.{LineWhy}
-use Rattle.protocol_model.specs.declared.LineWhy.TheVariants.{TooLong}
 use Rattle.protocol_model.specs.Limits.{script_bytes}
 use Rattle.protocol_model.specs.Value.{Table}
 use Rattle.class_layout.specs.Tables.{Layout, table_in}
@@ -40,6 +39,10 @@ pub whole_bad : (layout : Layout) (live : Bool) (bytes : List ℕ) (r : Result (
 whole_bad layout live bytes (Ok lines) short h = h
 whole_bad layout live bytes (Err bad) short h = λ n why e.
     script_is (table_in layout) live bytes (Err (n, why)) short (h n why e)
+
+pub prepended_none : (r : Result (List story.Line) (ℕ × LineWhy)) → prepended [] r ≡ r
+prepended_none (Ok lines) = refl
+prepended_none (Err bad) = refl
 
 -- a piece's end counts too, and nothing is left after the last piece
 abbrev pub left_of : Option (Bor (List ℕ)) → ℕ
@@ -101,17 +104,17 @@ taken_refused table live kept number text done stop.Memory h n why e texts = abs
 -- ---- the loop
 
 pub loop_step : (table table_0 : Table) (live live_0 : Bool) (kept after : Kept)
-    (whole : Result (List story.Line) (ℕ × LineWhy)) (done done_after : List story.Line) (number : ℕ)
+    (whole : Result (List story.Line) (ℕ × LineWhy)) (done more : List story.Line) (number : ℕ)
     (rest : Option (Bor (List ℕ))) (text : Bor (List ℕ)) (line : Text) (texts : List Text)
     → table ≡ table_0 → live ≡ live_0
     → prepended done (lines_by table live kept number (line ∷ texts))
-    ≡ prepended done_after (lines_by table live after (number + 1) texts)
+    ≡ prepended more (lines_by table live after (number + 1) texts)
     → prepended done (lines_by table_0 live_0 kept number (pieces_after 10 rest)) ≡ whole → rest ≡ Some text
     → pieces 10 text.now ≡ line ∷ texts
-    → prepended done_after (lines_by table_0 live_0 after (number + 1) texts) ≡ whole
-loop_step table table_0 live live_0 kept after whole done done_after number rest text line texts t l took before is first =
-    subst (λ tb. prepended done_after (lines_by tb live_0 after (number + 1) texts) ≡ whole) t
-    (subst (λ lv. prepended done_after (lines_by table lv after (number + 1) texts) ≡ whole) l
+    → prepended more (lines_by table_0 live_0 after (number + 1) texts) ≡ whole
+loop_step table table_0 live live_0 kept after whole done more number rest text line texts t l took before is first =
+    subst (λ tb. prepended more (lines_by tb live_0 after (number + 1) texts) ≡ whole) t
+    (subst (λ lv. prepended more (lines_by table lv after (number + 1) texts) ≡ whole) l
     (sym took ∙ ap (λ ps. prepended done (lines_by table live kept number ps)) (sym first)
     ∙ ap (λ r. prepended done (lines_by table live kept number (pieces_after 10 r))) (sym is)
     ∙ ap (λ tb. prepended done (lines_by tb live kept number (pieces_after 10 rest))) t

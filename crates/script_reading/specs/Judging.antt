@@ -1,6 +1,6 @@
 -- What a line comes to, by what is kept of those before it: the line with its names and values read, or the first
 -- reason against it. Each kind of line asks for what it needs, one thing after another.
-use Rattle.std.specs.Prelude.{⊤, ℕ, List, [], length, Bool, true, false, not, ◌&&◌, ◌||◌, nat_le, nat_lt, Option, Some, None, is_some, unwrap_or, option_map, option_and_then, Result, Ok, Err, if◌then◌else◌, ℤ, ◌==◌, ◌∷◌, ◌+◌}
+use Rattle.std.specs.Prelude.{⊤, ℕ, List, [], length, Bool, true, false, not, ◌||◌, nat_le, nat_lt, Option, Some, None, Result, Ok, Err, if◌then◌else◌, ℤ, ◌∷◌, ◌+◌}
 use Rattle.std.specs.Bool.{then_some}
 use Rattle.std.specs.List.{list_all}
 use Rattle.std.specs.Option.{ok_or}
@@ -10,18 +10,17 @@ use Rattle.protocol_model.specs.declared.LineWhy.TheVariants.{TooLong, NotText, 
 use Rattle.protocol_model.specs.declared.LineWhy.TheVariants as why
 use Rattle.protocol_model.specs.declared.Way.{Way}
 use Rattle.protocol_model.specs.declared.Way.TheVariants.{Multicast}
-use Rattle.protocol_model.specs.Limits.{budget_limit, connection_limit, line_bytes, player_limit, script_bytes, spawn_limit, team_limit}
+use Rattle.protocol_model.specs.Limits.{budget_limit, connection_limit, line_bytes, player_limit, spawn_limit, team_limit}
 use Rattle.protocol_model.specs.Payload.{natural}
 use Rattle.protocol_model.specs.Search.{is_among}
-use Rattle.protocol_model.specs.Side.{Side, AtServer, AtClient}
+use Rattle.protocol_model.specs.Side.{AtServer, AtClient}
 use Rattle.protocol_model.specs.Value.{Table, Class, Call, Arg, fits, prop_at, call_at, goes_up}
 use Rattle.protocol_model.specs.World as world
 use Rattle.script_model.specs.Lines as story
 use Rattle.script_model.specs.Lines.{Line, Text}
-use Rattle.script_model.specs.Script as script
-use Rattle.script_model.specs.Script.{Spelled, Join, Spawn, Destroy, Set, Own, View, Add, Dormant, Wake, Flush, Switch, Team, Give, Tick, ClientTick, Deliver, DeliverNew, CallTo, CallAll, Dump, AskSettled, Forge, number_of, spelled_of, pieces}
+use Rattle.script_model.specs.Script.{Spelled, Join, Spawn, Destroy, Set, Own, View, Add, Dormant, Wake, Flush, Switch, Team, Give, Tick, ClientTick, Deliver, DeliverNew, CallTo, CallAll, Dump, AskSettled, Forge, number_of, spelled_of}
 use Rattle.script_model.specs.ScriptRules.{is_from_to, is_player, is_coordinate, class_named, settable_handle, switchable_handle, call_named, args_of, does_nothing, cons_ok}
-use Rattle.script_reading.specs.Kept.{Kept, Actor, nothing, actor_at, kept_after}
+use Rattle.script_reading.specs.Kept.{Kept, Actor, actor_at, kept_after}
 
 infixl 10 ◌>>=◌
 -- the second reading, of what the first one gives

@@ -1,5 +1,5 @@
 -- What is kept of the lines before: a class for each actor and whether it lives, and the players who joined.
-use Rattle.std.specs.Prelude.{ℕ, zero, suc, ◌-◌, ◌/◌, List, [], ◌∷◌, ◌++◌, Bool, true, false, Option, Some, None, option_map, slice_get, if◌then◌else◌, ℤ}
+use Rattle.std.specs.Prelude.{ℕ, zero, suc, ◌-◌, ◌*◌, ◌/◌, ◌&&◌, ◌==◌, nat_le, List, [], ◌∷◌, ◌++◌, Bool, true, false, Option, Some, None, option_map, slice_get, if◌then◌else◌, ℤ}
 use Rattle.protocol_model.specs.Limits.{spawn_limit}
 use Rattle.protocol_model.specs.Payload.{natural}
 use Rattle.protocol_model.specs.Value.{Table, Class}
@@ -29,13 +29,15 @@ actor_at kept z =
     if is_from_to 1 spawn_limit z
     then option_map (λ (a : Actor). (guid_of z, a)) (slice_get kept.actors (natural z - 1)) else None
 
--- the class of the actor of a guid
+-- the class of an actor that was spawned
+abbrev pub class_if : Option Actor → Class
+class_if None = no_class
+class_if (Some actor) = actor.class
+
+-- the class of the actor of a guid; the n-th spawn has guid 2n
 abbrev pub class_kept : Kept → (actor : ℕ) → Class
-class_kept kept a = of (slice_get kept.actors (a / 2 - 1))
-  where
-    of : Option Actor → Class
-    of None = no_class
-    of (Some actor) = actor.class
+class_kept kept a =
+    if nat_le 2 a && a == 2 * (a / 2) then class_if (slice_get kept.actors (a / 2 - 1)) else no_class
 
 -- the actor at this place is destroyed
 abbrev pub destroyed_at : ℕ → List Actor → List Actor

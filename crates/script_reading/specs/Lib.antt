@@ -1,5 +1,6 @@
 pub mod Kept
 pub mod Judging
+pub mod ToldBy
 pub mod Stands
 pub mod KeptIn
 pub mod Members

@@ -10,7 +10,8 @@ use Rattle.script_reading.specs.Kept.{Kept, Actor}
 
 -- an actor of this spawn
 abbrev pub seen_in : Table → Edits → (actor : ℕ) → Spawned → Actor
-seen_in table edits a spawned = record { class = class_at table spawned.class; alive = not (list_any (destroys a) edits) }
+seen_in table edits a spawned =
+    record { class = class_at table spawned.class; alive = not (list_any (destroys a) edits) }
 
 -- an actor, after these edits
 abbrev pub seen_at : Table → Edits → (actor : ℕ) → Option Actor

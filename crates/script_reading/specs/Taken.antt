@@ -1,5 +1,5 @@
 -- Values and arguments, taken one after another.
-use Rattle.std.specs.Prelude.{⊤, ℕ, ◌<◌, ◌^◌, List, [], ◌∷◌, Option, Some, None, option_map, Result, Ok, Err, ℤ}
+use Rattle.std.specs.Prelude.{⊤, ◌<◌, ◌^◌, List, [], ◌∷◌, Option, Some, None, option_map, Result, Err, ℤ}
 use Rattle.std.specs.Bool.{then_some}
 use Rattle.std.specs.Option.{ok_or}
 use Rattle.protocol_model.specs.declared.Kind.{Kind}

@@ -1,6 +1,6 @@
 // Values and arguments.
-ghost use Rattle.std.specs.Prelude.{◌≡◌, IsTrue, option_map, map, IfOk};
-ghost use Rattle.value_codec.specs.Values.{whole_of, is_of, arg_of};
+ghost use Rattle.std.specs.Prelude.{◌≡◌, IsTrue, option_map, map, IfOk, IfSome};
+ghost use Rattle.value_codec.specs.Values.{whole_of, is_of, arg_of, arg_is_of, args_are_of};
 ghost use Rattle.class_members.specs.Members.{call_of};
 ghost use Rattle.script_model.specs.ScriptRules as rules;
 ghost use Rattle.script_spelling.specs.Fields.{pieces_after};
@@ -52,7 +52,8 @@ pub(crate) fn value(kind: Kind, text: &[u8]) -> Result<Value, LineWhy>
 }
 
 fn scalar(kind: Kind, text: &[u8]) -> Option<Arg>
-    ensures { option_map arg_of result ≡ rules.scalar_of kind text.now }
+    ensures number { option_map arg_of result ≡ rules.scalar_of kind text.now }
+    ensures tag { IfSome result (λ a. IsTrue (arg_is_of kind a)) }
 {
     match value(kind, text) {
         Ok(value) => Some(Arg::Scalar(value)),
@@ -62,7 +63,8 @@ fn scalar(kind: Kind, text: &[u8]) -> Option<Arg>
 
 // At most so many bytes.
 fn bytes(alloc: Global, most: u16, text: &[u8]) -> Result<Option<Arg>, Memory>
-    ensures { IfOk result (λ a. option_map arg_of a ≡ rules.octets_arg most text.now) }
+    ensures bytes { IfOk result (λ a. option_map arg_of a ≡ rules.octets_arg most text.now) }
+    ensures tag { IfOk result (λ a. IfSome a (λ a. IsTrue (arg_is_of (Kind.Bytes most) a))) }
 {
     let Some(bytes) = octets(alloc, text)? else {
         return Ok(None);
@@ -74,7 +76,8 @@ fn bytes(alloc: Global, most: u16, text: &[u8]) -> Result<Option<Arg>, Memory>
 }
 
 fn argument(alloc: Global, kind: Kind, text: &[u8]) -> Result<Option<Arg>, Memory>
-    ensures { IfOk result (λ a. option_map arg_of a ≡ rules.arg_of kind text.now) }
+    ensures argument { IfOk result (λ a. option_map arg_of a ≡ rules.arg_of kind text.now) }
+    ensures tag { IfOk result (λ a. IfSome a (λ a. IsTrue (arg_is_of kind a))) }
 {
     match kind {
         Kind::Bytes(most) => bytes(alloc, most, text),
@@ -88,8 +91,9 @@ fn next_argument(
     kind: Kind,
     fields: Option<&[u8]>,
 ) -> Result<Option<(Arg, Option<&[u8]>)>, Memory>
-    ensures { IfOk result (λ r. option_map (λ a. (arg_of a.0, pieces_after 32 a.1)) r
+    ensures exact { IfOk result (λ r. option_map (λ a. (arg_of a.0, pieces_after 32 a.1)) r
         ≡ take_arg kind (pieces_after 32 fields.entry)) }
+    ensures tag { IfOk result (λ r. IfSome r (λ r. IsTrue (arg_is_of kind r.0))) }
 {
     let Some(text) = fields else {
         return Ok(None);
@@ -107,8 +111,9 @@ fn all_arguments(
     kinds: &[Kind],
     fields: Option<&[u8]>,
 ) -> Result<Option<ArgList>, Memory>
-    ensures { IfOk result (λ args. option_map (map arg_of) args
+    ensures exact { IfOk result (λ args. option_map (map arg_of) args
         ≡ rules.args_of kinds.now (pieces_after 32 fields.entry)) }
+    ensures tags { IfOk result (λ args. IfSome args (λ args. IsTrue (args_are_of kinds.now args))) }
 {
     let mut args = ArgList::new(alloc);
     let mut rest = fields;
@@ -125,8 +130,9 @@ fn all_arguments(
 /// The arguments of the call that the fields spell.
 #[tactic(auto, unfolding(crate::specs::Judging::args_in))]
 pub(crate) fn arguments(alloc: Global, call: &Call, fields: Option<&[u8]>) -> Result<ArgList, Stop>
-    ensures { Tells (map arg_of) (args_in (call_of call.now) (pieces_after 32 fields.entry))
+    ensures exact { Tells (map arg_of) (args_in (call_of call.now) (pieces_after 32 fields.entry))
         result }
+    ensures tags { IfOk result (λ args. IsTrue (args_are_of call.now.args args)) }
 {
     match all_arguments(alloc, call.args.as_slice(), fields)? {
         Some(args) => Ok(args),

@@ -20,9 +20,9 @@
 // on `script_lines` for lines.
 //
 // It promises that a script is read exactly where the definitions accept it, with their lines, and
-// is refused at their first bad line with the first of its reasons. It doesn't say that edits and
-// arguments have their kinds' tags. It takes one pass over the bytes, and keeps the lines, a word
-// for each actor and the players who joined. It does none of the lines.
+// is refused at their first bad line with the first of its reasons, and that values and arguments
+// have the tags of their kinds. It takes one pass over the bytes, and keeps the lines, a word for
+// each actor and the players who joined. It does none of the lines.
 #![tactic(auto)]
 
 mod arguments;

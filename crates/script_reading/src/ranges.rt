@@ -1,10 +1,11 @@
 // Numbers in range.
-ghost use Rattle.std.specs.Prelude.{◌≡◌, ◌≢◌, Some, IfOk, unwrap_or};
+ghost use Rattle.std.specs.Prelude.{◌≡◌, IsTrue, IfOk, unwrap_or};
 ghost use Rattle.protocol_model.specs.Limits.{player_limit, team_limit};
 ghost use Rattle.script_model.specs.ScriptRules as rules;
 ghost use Rattle.script_reading.specs.Judging as judging;
 ghost use Rattle.script_reading.specs.Judging.{player_of, coordinate_of};
 ghost use Rattle.script_reading.specs.KeptIn.{seen_by};
+ghost use Rattle.script_reading.specs.ToldBy.{may_own};
 
 use net_core::Player;
 use protocol_model::LineWhy;
@@ -31,7 +32,7 @@ pub(crate) fn player(n: i128) -> Result<Player, LineWhy>
 #[tactic(auto, unfolding(crate::specs::Judging::player_of, crate::specs::Judging::within))]
 pub(crate) fn owner(n: i128) -> Result<Option<Player>, LineWhy>
     ensures number { seen_by (λ p. unwrap_or p 0) result ≡ judging.within 0 player_limit n }
-    ensures player { IfOk result (λ p. p ≢ Some 0) }
+    ensures player { IfOk result (λ p. IsTrue (may_own p)) }
 {
     if n == 0 {
         return Ok(None);

@@ -1,5 +1,5 @@
 // Lines, each judged by those before it.
-ghost use Rattle.std.specs.Prelude.{◌≡◌, not, length, unwrap_or, [], true, false, IfOk, OnOk};
+ghost use Rattle.std.specs.Prelude.{◌≡◌, not, length, unwrap_or, [], true, false, IsTrue, IfOk, OnOk};
 ghost use Rattle.protocol_model.specs.Value.{goes_up};
 ghost use Rattle.protocol_model.specs.World.{class_at};
 ghost use Rattle.protocol_model.specs.declared.LineWhy.TheVariants as why;
@@ -12,11 +12,12 @@ ghost use Rattle.world_table.specs.Answers.{edit_of};
 ghost use Rattle.script_lines.specs.LineOf.{line_of};
 ghost use Rattle.script_spelling.specs.Fields.{pieces_after};
 ghost use Rattle.script_spelling.specs.SpelledBy.{spelled_by};
-ghost use Rattle.script_reading.specs.Kept.{nothing, kept_with, kept_after};
+ghost use Rattle.script_reading.specs.Kept.{Kept, nothing, kept_with, kept_after};
 ghost use Rattle.script_reading.specs.KeptIn.{seen_by};
 ghost use Rattle.script_reading.specs.Judging.{judged, not_live, must_join, joined_in, numbered_in, actor_of, called_of, must, is_multicast, may_join, may_spawn};
 ghost use Rattle.script_reading.specs.Gives.{table_of, kept_of};
 ghost use Rattle.script_reading.specs.Tells.{Tells};
+ghost use Rattle.script_reading.specs.ToldBy.{is_told_by};
 
 use crate::arguments::{arguments, value};
 use crate::known::Known;
@@ -42,7 +43,9 @@ pub(crate) struct Reader<'a> {
 
 // A line that needs no memory.
 fn told(line: Result<Line, LineWhy>) -> Result<Line, Stop>
-    ensures { Tells line_of (seen_by line_of line) result }
+    ensures exact { Tells line_of (seen_by line_of line) result }
+    ensures told { (kept : Kept) → IfOk line (λ line. IsTrue (is_told_by kept line))
+        → IfOk result (λ line. IsTrue (is_told_by kept line)) }
 {
     match line {
         Ok(line) => Ok(line),
@@ -100,8 +103,9 @@ impl<'a> Reader<'a> {
 
     /// The line, where it may follow those before it.
     pub(crate) fn judge(&self, spelled: &Spelled<'_>) -> Result<Line, Stop>
-        ensures { Tells line_of (judged (table_of self.now) self.now.live (kept_of self.now)
+        ensures exact { Tells line_of (judged (table_of self.now) self.now.live (kept_of self.now)
             (spelled_by spelled.now)) result }
+        ensures told { IfOk result (λ line. IsTrue (is_told_by (kept_of self.now) line)) }
     {
         match *spelled {
             Spelled::Join {
@@ -306,9 +310,10 @@ impl<'a> Reader<'a> {
     }
 
     fn join(&self, version: Version, number: i128, budget: i128) -> Result<Line, LineWhy>
-        ensures { seen_by line_of result
+        ensures exact { seen_by line_of result
             ≡ judged (table_of self.now) self.now.live (kept_of self.now)
             (script.Join version number budget) }
+        ensures told { IfOk result (λ line. IsTrue (is_told_by (kept_of self.now) line)) }
     {
         self.not_live()?;
         let player = player(number)?;
@@ -322,9 +327,10 @@ impl<'a> Reader<'a> {
     }
 
     fn spawn(&self, name: &[u8], x: i128, y: i128) -> Result<Line, LineWhy>
-        ensures { seen_by line_of result
+        ensures exact { seen_by line_of result
             ≡ judged (table_of self.now) self.now.live (kept_of self.now)
             (script.Spawn name.now x y) }
+        ensures told { IfOk result (λ line. IsTrue (is_told_by (kept_of self.now) line)) }
     {
         let x = coordinate(x)?;
         let y = coordinate(y)?;
@@ -334,94 +340,105 @@ impl<'a> Reader<'a> {
     }
 
     fn destroy(&self, number: i128) -> Result<Line, LineWhy>
-        ensures { seen_by line_of result
+        ensures exact { seen_by line_of result
             ≡ judged (table_of self.now) self.now.live (kept_of self.now) (script.Destroy number) }
+        ensures told { IfOk result (λ line. IsTrue (is_told_by (kept_of self.now) line)) }
     {
         let (actor, _) = self.living(number)?;
         Ok(Line::Edit(Edit::Destroy { actor }))
     }
 
     fn dormant(&self, number: i128) -> Result<Line, LineWhy>
-        ensures { seen_by line_of result
+        ensures exact { seen_by line_of result
             ≡ judged (table_of self.now) self.now.live (kept_of self.now) (script.Dormant number) }
+        ensures told { IfOk result (λ line. IsTrue (is_told_by (kept_of self.now) line)) }
     {
         let (actor, _) = self.living(number)?;
         Ok(Line::Edit(Edit::Dormant { actor }))
     }
 
     fn wake(&self, number: i128) -> Result<Line, LineWhy>
-        ensures { seen_by line_of result
+        ensures exact { seen_by line_of result
             ≡ judged (table_of self.now) self.now.live (kept_of self.now) (script.Wake number) }
+        ensures told { IfOk result (λ line. IsTrue (is_told_by (kept_of self.now) line)) }
     {
         let (actor, _) = self.living(number)?;
         Ok(Line::Edit(Edit::Wake { actor }))
     }
 
     fn flush(&self, number: i128) -> Result<Line, LineWhy>
-        ensures { seen_by line_of result
+        ensures exact { seen_by line_of result
             ≡ judged (table_of self.now) self.now.live (kept_of self.now) (script.Flush number) }
+        ensures told { IfOk result (λ line. IsTrue (is_told_by (kept_of self.now) line)) }
     {
         let (actor, _) = self.living(number)?;
         Ok(Line::Edit(Edit::Flush { actor }))
     }
 
     fn client_tick(&self, number: i128) -> Result<Line, LineWhy>
-        ensures { seen_by line_of result
+        ensures exact { seen_by line_of result
             ≡ judged (table_of self.now) self.now.live (kept_of self.now)
             (script.ClientTick number) }
+        ensures told { IfOk result (λ line. IsTrue (is_told_by (kept_of self.now) line)) }
     {
         let player = self.joined(number)?;
         Ok(Line::ClientTick { player })
     }
 
     fn dump(&self, number: i128) -> Result<Line, LineWhy>
-        ensures { seen_by line_of result
+        ensures exact { seen_by line_of result
             ≡ judged (table_of self.now) self.now.live (kept_of self.now) (script.Dump number) }
+        ensures told { IfOk result (λ line. IsTrue (is_told_by (kept_of self.now) line)) }
     {
         let player = self.joined(number)?;
         Ok(Line::Dump { player })
     }
 
     fn down(&self, number: i128, packet: i128) -> Result<Line, LineWhy>
-        ensures { seen_by line_of result
+        ensures exact { seen_by line_of result
             ≡ judged (table_of self.now) self.now.live (kept_of self.now)
             (script.Deliver AtClient number packet) }
+        ensures told { IfOk result (λ line. IsTrue (is_told_by (kept_of self.now) line)) }
     {
         let (player, packet) = self.numbered(number, packet, 1, 1_000_000)?;
         Ok(Line::Down { player, packet })
     }
 
     fn up(&self, number: i128, packet: i128) -> Result<Line, LineWhy>
-        ensures { seen_by line_of result
+        ensures exact { seen_by line_of result
             ≡ judged (table_of self.now) self.now.live (kept_of self.now)
             (script.Deliver AtServer number packet) }
+        ensures told { IfOk result (λ line. IsTrue (is_told_by (kept_of self.now) line)) }
     {
         let (player, packet) = self.numbered(number, packet, 1, 1_000_000)?;
         Ok(Line::Up { player, packet })
     }
 
     fn down_new(&self, number: i128, every: i128) -> Result<Line, LineWhy>
-        ensures { seen_by line_of result
+        ensures exact { seen_by line_of result
             ≡ judged (table_of self.now) self.now.live (kept_of self.now)
             (script.DeliverNew AtClient number every) }
+        ensures told { IfOk result (λ line. IsTrue (is_told_by (kept_of self.now) line)) }
     {
         let (player, every) = self.numbered(number, every, 0, 1000)?;
         Ok(Line::DownNew { player, every })
     }
 
     fn up_new(&self, number: i128, every: i128) -> Result<Line, LineWhy>
-        ensures { seen_by line_of result
+        ensures exact { seen_by line_of result
             ≡ judged (table_of self.now) self.now.live (kept_of self.now)
             (script.DeliverNew AtServer number every) }
+        ensures told { IfOk result (λ line. IsTrue (is_told_by (kept_of self.now) line)) }
     {
         let (player, every) = self.numbered(number, every, 0, 1000)?;
         Ok(Line::UpNew { player, every })
     }
 
     fn set(&self, number: i128, name: &[u8], text: &[u8]) -> Result<Line, LineWhy>
-        ensures { seen_by line_of result
+        ensures exact { seen_by line_of result
             ≡ judged (table_of self.now) self.now.live (kept_of self.now)
             (script.Set number name.now text.now) }
+        ensures told { IfOk result (λ line. IsTrue (is_told_by (kept_of self.now) line)) }
     {
         let (actor, class) = self.living(number)?;
         let (prop, kind) = settable(self.classes, class, name)?;
@@ -430,9 +447,10 @@ impl<'a> Reader<'a> {
     }
 
     fn own(&self, number: i128, player: i128) -> Result<Line, LineWhy>
-        ensures { seen_by line_of result
+        ensures exact { seen_by line_of result
             ≡ judged (table_of self.now) self.now.live (kept_of self.now)
             (script.Own number player) }
+        ensures told { IfOk result (λ line. IsTrue (is_told_by (kept_of self.now) line)) }
     {
         let player = owner(player)?;
         let (actor, _) = self.living(number)?;
@@ -440,8 +458,9 @@ impl<'a> Reader<'a> {
     }
 
     fn view(&self, number: i128, x: i128, y: i128) -> Result<Line, LineWhy>
-        ensures { seen_by line_of result
+        ensures exact { seen_by line_of result
             ≡ judged (table_of self.now) self.now.live (kept_of self.now) (script.View number x y) }
+        ensures told { IfOk result (λ line. IsTrue (is_told_by (kept_of self.now) line)) }
     {
         let player = player(number)?;
         let x = coordinate(x)?;
@@ -450,9 +469,10 @@ impl<'a> Reader<'a> {
     }
 
     fn add(&self, on: bool, actor: i128, number: i128) -> Result<Line, LineWhy>
-        ensures { seen_by line_of result
+        ensures exact { seen_by line_of result
             ≡ judged (table_of self.now) self.now.live (kept_of self.now)
             (script.Add on actor number) }
+        ensures told { IfOk result (λ line. IsTrue (is_told_by (kept_of self.now) line)) }
     {
         let player = player(number)?;
         let (actor, _) = self.living(actor)?;
@@ -460,9 +480,10 @@ impl<'a> Reader<'a> {
     }
 
     fn switch(&self, number: i128, name: &[u8], on: bool) -> Result<Line, LineWhy>
-        ensures { seen_by line_of result
+        ensures exact { seen_by line_of result
             ≡ judged (table_of self.now) self.now.live (kept_of self.now)
             (script.Switch number name.now on) }
+        ensures told { IfOk result (λ line. IsTrue (is_told_by (kept_of self.now) line)) }
     {
         let (actor, class) = self.living(number)?;
         let prop = switchable(self.classes, class, name)?;
@@ -470,9 +491,10 @@ impl<'a> Reader<'a> {
     }
 
     fn team(&self, number: i128, given: i128) -> Result<Line, LineWhy>
-        ensures { seen_by line_of result
+        ensures exact { seen_by line_of result
             ≡ judged (table_of self.now) self.now.live (kept_of self.now)
             (script.Team number given) }
+        ensures told { IfOk result (λ line. IsTrue (is_told_by (kept_of self.now) line)) }
     {
         let player = player(number)?;
         let team = team(given)?;
@@ -480,9 +502,10 @@ impl<'a> Reader<'a> {
     }
 
     fn give(&self, number: i128, given: i128) -> Result<Line, LineWhy>
-        ensures { seen_by line_of result
+        ensures exact { seen_by line_of result
             ≡ judged (table_of self.now) self.now.live (kept_of self.now)
             (script.Give number given) }
+        ensures told { IfOk result (λ line. IsTrue (is_told_by (kept_of self.now) line)) }
     {
         let team = team(given)?;
         let (actor, _) = self.living(number)?;
@@ -490,9 +513,10 @@ impl<'a> Reader<'a> {
     }
 
     fn settled(&self, number: i128, actor: i128) -> Result<Line, LineWhy>
-        ensures { seen_by line_of result
+        ensures exact { seen_by line_of result
             ≡ judged (table_of self.now) self.now.live (kept_of self.now)
             (script.AskSettled number actor) }
+        ensures told { IfOk result (λ line. IsTrue (is_told_by (kept_of self.now) line)) }
     {
         let player = self.joined(number)?;
         let (actor, _) = self.spawned(actor)?;
@@ -500,8 +524,9 @@ impl<'a> Reader<'a> {
     }
 
     fn forge(&self, number: i128, hex: &[u8]) -> Result<Line, Stop>
-        ensures { Tells line_of (judged (table_of self.now) self.now.live (kept_of self.now)
+        ensures exact { Tells line_of (judged (table_of self.now) self.now.live (kept_of self.now)
             (script.Forge AtServer number (unwrap_or (octets_of hex.now) []))) result }
+        ensures told { IfOk result (λ line. IsTrue (is_told_by (kept_of self.now) line)) }
     {
         let player = self.joined(number)?;
         let bytes = self.bytes(hex)?;
@@ -509,8 +534,9 @@ impl<'a> Reader<'a> {
     }
 
     fn client_forge(&self, number: i128, hex: &[u8]) -> Result<Line, Stop>
-        ensures { Tells line_of (judged (table_of self.now) self.now.live (kept_of self.now)
+        ensures exact { Tells line_of (judged (table_of self.now) self.now.live (kept_of self.now)
             (script.Forge AtClient number (unwrap_or (octets_of hex.now) []))) result }
+        ensures told { IfOk result (λ line. IsTrue (is_told_by (kept_of self.now) line)) }
     {
         let player = self.joined(number)?;
         let bytes = self.bytes(hex)?;
@@ -547,8 +573,9 @@ impl<'a> Reader<'a> {
         name: &[u8],
         fields: Option<&[u8]>,
     ) -> Result<Line, Stop>
-        ensures { Tells line_of (judged (table_of self.now) self.now.live (kept_of self.now)
+        ensures exact { Tells line_of (judged (table_of self.now) self.now.live (kept_of self.now)
             (script.CallTo AtServer number actor name.now (pieces_after 32 fields.entry))) result }
+        ensures told { IfOk result (λ line. IsTrue (is_told_by (kept_of self.now) line)) }
     {
         let player = player(number)?;
         self.must_join(player)?;
@@ -571,8 +598,9 @@ impl<'a> Reader<'a> {
         name: &[u8],
         fields: Option<&[u8]>,
     ) -> Result<Line, Stop>
-        ensures { Tells line_of (judged (table_of self.now) self.now.live (kept_of self.now)
+        ensures exact { Tells line_of (judged (table_of self.now) self.now.live (kept_of self.now)
             (script.CallTo AtClient number actor name.now (pieces_after 32 fields.entry))) result }
+        ensures told { IfOk result (λ line. IsTrue (is_told_by (kept_of self.now) line)) }
     {
         let player = self.joined(number)?;
         let (actor, class) = self.spawned(actor)?;
@@ -588,8 +616,9 @@ impl<'a> Reader<'a> {
     }
 
     fn multi(&self, actor: i128, name: &[u8], fields: Option<&[u8]>) -> Result<Line, Stop>
-        ensures { Tells line_of (judged (table_of self.now) self.now.live (kept_of self.now)
+        ensures exact { Tells line_of (judged (table_of self.now) self.now.live (kept_of self.now)
             (script.CallAll actor name.now (pieces_after 32 fields.entry))) result }
+        ensures told { IfOk result (λ line. IsTrue (is_told_by (kept_of self.now) line)) }
     {
         let (actor, class) = self.living(actor)?;
         let (call, found) = self.called(class, name, fields)?;

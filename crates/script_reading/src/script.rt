@@ -1,5 +1,5 @@
 // Whole scripts.
-ghost use Rattle.std.specs.Prelude.{◌≡◌, ◌≤◌, ◌+◌, ◌∷◌, ◌++◌, [], ℕ, List, Ok, Err, Result, length, map, nat_lt, option_map, option_to_list, IfOk, IfErr, OnOk};
+ghost use Rattle.std.specs.Prelude.{◌≡◌, ◌≤◌, ◌+◌, ◌∷◌, ◌++◌, [], ℕ, List, Ok, Err, Result, IsTrue, true, length, map, nat_lt, option_map, option_to_list, IfOk, IfErr, IfSome, OnOk};
 ghost use Rattle.std.specs.List.{list_all};
 ghost use Rattle.protocol_model.specs.Limits.{script_bytes};
 ghost use Rattle.protocol_model.specs.declared.LineWhy.{LineWhy as Why};
@@ -9,11 +9,13 @@ ghost use Rattle.script_model.specs.Script.{pieces};
 ghost use Rattle.script_model.specs.ScriptRules as rules;
 ghost use Rattle.script_model.specs.ScriptRules.{Reads, BadLine};
 ghost use Rattle.script_lines.specs.LineOf.{line_of};
-ghost use Rattle.script_reading.specs.Kept.{nothing, kept_after, kept_some};
+ghost use Rattle.script_lines.specs.ToldRight.{are_told_right};
+ghost use Rattle.script_reading.specs.Kept.{Kept, nothing, kept_after, kept_some};
 ghost use Rattle.script_reading.specs.Judging.{spelled_line, read_by, lines_by, some_line};
 ghost use Rattle.script_reading.specs.Gives.{table_of, kept_of};
 ghost use Rattle.script_reading.specs.Prepended.{prepended};
 ghost use Rattle.script_reading.specs.Tells.{Tells, refused};
+ghost use Rattle.script_reading.specs.ToldBy.{is_told_by, Told};
 
 use crate::reader::Reader;
 use crate::refusal::{ScriptRefusal, Stop};
@@ -41,8 +43,10 @@ fn does_nothing(text: &[u8]) -> bool
 }
 
 fn some_line(line: Result<Line, Stop>) -> Result<Option<Line>, Stop>
-    ensures { (told : Result story.Line Why) → Tells line_of told line
+    ensures exact { (told : Result story.Line Why) → Tells line_of told line
         → Tells (option_map line_of) (some_line told) result }
+    ensures told { (kept : Kept) → IfOk line (λ line. IsTrue (is_told_by kept line))
+        → IfOk result (λ line. IfSome line (λ line. IsTrue (is_told_by kept line))) }
 {
     match line {
         Ok(line) => Ok(Some(line)),
@@ -52,9 +56,11 @@ fn some_line(line: Result<Line, Stop>) -> Result<Option<Line>, Stop>
 }
 
 fn read_spelled(reader: &Reader<'_>, text: &[u8]) -> Result<Option<Line>, Stop>
-    ensures { Tells (option_map line_of)
+    ensures exact { Tells (option_map line_of)
         (spelled_line (table_of reader.now) reader.now.live (kept_of reader.now) text.now)
         result }
+    ensures told { IfOk result (λ line. IfSome line (λ line.
+        IsTrue (is_told_by (kept_of reader.now) line))) }
 {
     match spelled_of(text) {
         Some(spelled) => {
@@ -67,8 +73,10 @@ fn read_spelled(reader: &Reader<'_>, text: &[u8]) -> Result<Option<Line>, Stop>
 
 // A line's reading: nothing for an empty line or a comment.
 fn read_line(reader: &Reader<'_>, text: &[u8]) -> Result<Option<Line>, Stop>
-    ensures { Tells (option_map line_of)
+    ensures exact { Tells (option_map line_of)
         (read_by (table_of reader.now) reader.now.live (kept_of reader.now) text.now) result }
+    ensures told { IfOk result (λ line. IfSome line (λ line.
+        IsTrue (is_told_by (kept_of reader.now) line))) }
 {
     if text.len() > LINE_BYTES {
         return Err(Stop::Why(LineWhy::TooLong));
@@ -142,6 +150,8 @@ fn take_line(
         refusal ≡ ScriptRefusal.BadLine n why → (texts : List story.Text) →
         prepended (map line_of lines.old) (lines_by (table_of reader.old) reader.old.live
         (kept_of reader.old) number (text.now ∷ texts)) ≡ Err (n, why)) }
+    ensures told { OnOk result (Told (table_of reader.old) (kept_of reader.old) lines.old
+        → Told (table_of reader.old) (kept_of reader.new) lines.new) }
     ensures table { table_of reader.new ≡ table_of reader.old }
     ensures live { reader.new.live ≡ reader.old.live }
 {
@@ -164,6 +174,7 @@ fn read_lines(
         refusal ≡ ScriptRefusal.BadLine line why →
         lines_by (table_in classes.now) live nothing 1 (pieces 10 bytes.now)
         ≡ Err (line, why)) }
+    ensures told { IfOk result (λ lines. are_told_right (table_in classes.now) [] lines ≡ true) }
 {
     let mut lines = LineList::new(alloc);
     let mut reader = Reader::new(alloc, classes, live);
@@ -185,7 +196,8 @@ fn read_lines(
 ///
 /// Names are those of the class table; a live script has edits, ticks and the server's calls alone.
 /// `BadLine` comes exactly where the rules of scripts refuse one: it names the first such line,
-/// counted from 1, and the first reason against it. `Memory` comes where there is none.
+/// counted from 1, and the first reason against it. `Memory` comes where there is none. The lines'
+/// values and arguments have the tags of their kinds, and no owner is player 0.
 pub fn read_script(
     alloc: Global,
     bytes: &[u8],
@@ -197,6 +209,7 @@ pub fn read_script(
     ensures refused { IfErr result (λ refusal. (line : ℕ) (why : Why) →
         refusal ≡ ScriptRefusal.BadLine line why →
         BadLine (table_in classes.now) live bytes.now line why) }
+    ensures told { IfOk result (λ lines. are_told_right (table_in classes.now) [] lines ≡ true) }
 {
     if bytes.len() > SCRIPT_BYTES {
         return Err(ScriptRefusal::BadLine {

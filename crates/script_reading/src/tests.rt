@@ -64,6 +64,52 @@ fn each_reason_has_its_line(rt: HostRuntime) -> Result<(), Fail> {
 }
 
 #[test]
+fn each_range_has_its_first_and_last_value(rt: HostRuntime) -> Result<(), Fail> {
+    let within = concat!(
+        "join 1 1\njoin2 1000 1000000\n",
+        "spawn Pawn -2147483648 2147483647\nspawn Flag 0 0\nspawn Purse 0 0\n",
+        "view 1000 -2147483648 2147483647\nteam 1 0\nteam 1000 64\n",
+        "give 1 0\ngive 1 64\nown 1 0\nown 1 1000\n",
+        "down 1 1\nup 1000 1000000\ndownnew 1 0\nupnew 1000 1000\nsettled 1 3\n",
+        "set 1 x -2147483648\nset 1 y 2147483647\nset 1 hp 0\nset 1 hp 255\n",
+        "set 1 ammo 4294967295\nset 1 team 3\nset 1 aim -2147483648\n",
+        "set 2 holder 4294967295\nset 2 score 4294967295\n",
+        "set 3 gold -9223372036854775808\nset 3 gold 9223372036854775807\n",
+    );
+    let cases = [
+        (within, None),
+        ("join 1001 1", Some((1, LineWhy::Range))),
+        ("join 1 0", Some((1, LineWhy::Range))),
+        ("spawn Pawn -2147483649 0", Some((1, LineWhy::Range))),
+        ("down 1 0", Some((1, LineWhy::Range))),
+        ("up 1 1000001", Some((1, LineWhy::Range))),
+        ("spawn Pawn 0 0\nset 1 hp -1", Some((2, LineWhy::Value))),
+        (
+            "spawn Pawn 0 0\nset 1 ammo 4294967296",
+            Some((2, LineWhy::Value)),
+        ),
+        ("spawn Pawn 0 0\nset 1 team 4", Some((2, LineWhy::Value))),
+        (
+            "spawn Pawn 0 0\nset 1 x 2147483648",
+            Some((2, LineWhy::Value)),
+        ),
+        (
+            "spawn Flag 0 0\nset 1 score 4294967296",
+            Some((2, LineWhy::Value)),
+        ),
+        (
+            "spawn Purse 0 0\nset 1 gold 9223372036854775808",
+            Some((2, LineWhy::Value)),
+        ),
+    ];
+    for (script, wanted) in cases {
+        let told = refused(rt.alloc(), script.as_bytes(), false)?;
+        assert_eq!(rt; told, wanted, "{script}");
+    }
+    Ok(())
+}
+
+#[test]
 fn live_scripts_have_edits_ticks_and_calls(rt: HostRuntime) -> Result<(), Fail> {
     let cases = [
         (

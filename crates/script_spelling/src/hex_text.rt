@@ -18,10 +18,11 @@ pub fn octets(alloc: Global, text: &[u8]) -> Result<Option<Blob>, Memory>
     if are_same(text, b"-") {
         return Ok(Some(Blob::new(alloc)));
     }
-    decoded(alloc, text)
+    hex_bytes(alloc, text)
 }
 
-fn decoded(alloc: Global, text: &[u8]) -> Result<Option<Blob>, Memory>
+/// The bytes that hex digits of either case spell, two for each byte; no text spells none.
+pub fn hex_bytes(alloc: Global, text: &[u8]) -> Result<Option<Blob>, Memory>
     ensures { IfOk result (λ bytes. bytes ≡ hex_bytes text.now) }
 {
     match hex::decode(alloc, text) {

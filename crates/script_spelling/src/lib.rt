@@ -28,7 +28,7 @@ mod tests;
 mod word;
 
 pub use fields::{field_count, first_piece};
-pub use hex_text::octets;
+pub use hex_text::{hex_bytes, octets};
 pub use net_core::{Blob, Memory};
 pub use numbers::number;
 pub use protocol_model::Version;

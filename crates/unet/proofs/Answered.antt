@@ -1,85 +1,115 @@
--- What the read of the script answered, by the status of the outcome.
-use Rattle.std.proofs.Common.{◌≡◌, ℕ, List, Option, Result, Ok, Err, ◌⊎◌, inl, inr, refl, sym, ◌∙◌, arith}
-use Rattle.std.specs.Io.KnownBytes.{Appends}
-use Rattle.script_model.specs.Lines.{Line, Text}
-use Rattle.script_text.specs.Built.{built_script}
-use Rattle.script_text.proofs.Scripts.{every_script}
-use Rattle.net_core.specs.declared.outside.files.ReadRefusal.TheVariants as read
-use Rattle.unet.specs.Statuses.{replay_done, no_file, bad_script, IsStatus}
-use Rattle.unet.specs.Outcome.{ReadAnswer, outcome_of_read, outcome_of_script}
-use Rattle.unet.specs.Causes.{IsAccepted, IsRefused, TakesTranscript}
-use Rattle.unet.specs.Ends.{Ends, EndsWith}
+-- The statuses of outcomes, and how a run ends by them.
+use Rattle.std.proofs.Common.{◌≡◌, ℕ, List, false, Option, Result, Ok, Err, ◌⊎◌, inl, inr, refl, sym, subst, IfOk, arith}
+use Rattle.protocol_model.specs.Packet.{Packet}
+use Rattle.protocol_model.specs.BuiltIn.{built_in_table}
+use Rattle.protocol_model.specs.Value.{Table}
+use Rattle.protocol_model.specs.declared.LineWhy.{LineWhy}
+use Rattle.protocol_model.specs.declared.Version.{Version}
+use Rattle.table_model.specs.Checked.{Refusal}
+use Rattle.table_model.specs.Grammar.{table_in}
+use Rattle.script_model.specs.Lines.{Line}
+use Rattle.script_model.specs.ScriptRules.{script_of}
+use Rattle.program_model.specs.Shown.{LineFault, packets_of}
+use Rattle.class_layout.specs.Tables as layout
+use Rattle.net_core.specs.declared.outside.sink.WriteRefusal.{WriteRefusal}
+use Rattle.net_core.specs.declared.outside.sink.WriteRefusal.TheVariants as write
+use Rattle.unet.specs.Statuses.{words_unknown, outside_failed, no_memory, IsOfFile, IsOfCommand, IsEarly, IsStatus, status_of}
+use Rattle.unet.specs.Outcome.{Outcome, with_table, outcome_of_script, outcome_of_table, outcome_of_packets}
+use Rattle.unet.specs.Stopped.{outcome_of_work}
+use Rattle.unet.specs.declared.answer.Work.{Work}
+use Rattle.unet.specs.declared.answer.Work.TheVariants as work
+use Rattle.unet.specs.Ends.{Ends, EndsWith, EndsAs}
 
--- a script with the outcome of a refused one has a line that is refused
-refused_script : (script : List ℕ) → (outcome_of_script script).status ≡ bad_script → IsRefused script
-refused_script script e = by_reading (built_script script) refl
+-- ---- statuses
+
+of_table : (file : List ℕ) → IsOfFile (outcome_of_table file).status
+of_table file = by_reading (table_in file) refl
   where
-    by_reading : (r : Result (List Line) ℕ) → built_script script ≡ r → IsRefused script
-    by_reading (Ok lines) read = absurd (omega (arith, rw (read, outcome_of_script) at e))
-    by_reading (Err line) read = (line, read)
+    by_reading : (r : Result Table Refusal) → table_in file ≡ r → IsOfFile (outcome_of_table file).status
+    by_reading (Ok table) is = rw (is, with_table) (inl refl)
+    by_reading (Err refusal) is = rw (is, with_table) (inr (inl refl))
 
--- a script with the outcome of one that was replayed is taken with its transcript
-replayed_script : (script : List ℕ) (old new : Option (List ℕ)) → (outcome_of_script script).status ≡ replay_done → Appends old new (outcome_of_script script).text → TakesTranscript script old new
-replayed_script script old new done taken = by_reading (built_script script) refl
+of_script : (table : Table) (script : List ℕ) → IsOfFile (outcome_of_script table script).status
+of_script table script = by_reading (script_of table false script) refl
   where
-    by_reading : (r : Result (List Line) ℕ) → built_script script ≡ r → TakesTranscript script old new
-    by_reading (Ok lines) read =
-        record { lines = lines; reads = every_script script lines read; taken = rw (read, outcome_of_script) at taken }
-    by_reading (Err line) read = absurd (omega (arith, rw (read, outcome_of_script) at done))
+    by_reading : (r : Result (List Line) (ℕ × LineWhy)) → script_of table false script ≡ r
+        → IsOfFile (outcome_of_script table script).status
+    by_reading (Ok lines) is = rw (is, outcome_of_script) (inl refl)
+    by_reading (Err bad) is = rw (is, outcome_of_script) (inr (inr (inl refl)))
 
--- no script has the outcome of a missing file
-not_missing : (script : List ℕ) → (outcome_of_script script).status ≡ no_file → ⊥
-not_missing script e = by_reading (built_script script) refl
+of_packets : (version : Version) (file : List ℕ) → IsOfFile (outcome_of_packets version file).status
+of_packets version file = by_reading (packets_of version file) refl
   where
-    by_reading : (r : Result (List Line) ℕ) → built_script script ≡ r → ⊥
-    by_reading (Ok lines) read = omega (arith, rw (read, outcome_of_script) at e)
-    by_reading (Err line) read = omega (arith, rw (read, outcome_of_script) at e)
+    by_reading : (r : Result (List Packet) (ℕ × LineFault)) → packets_of version file ≡ r
+        → IsOfFile (outcome_of_packets version file).status
+    by_reading (Ok packets) is = rw (is, outcome_of_packets) (inl refl)
+    by_reading (Err bad) is = rw (is, outcome_of_packets) (inr (inr (inr refl)))
 
--- a run that replayed was answered a script, and its transcript was taken
-pub replayed : (name : Text) (answer : ReadAnswer) (status : ℕ) (old new : Option (List ℕ)) → EndsWith (outcome_of_read name answer) status old new → status ≡ replay_done → (script : List ℕ) × (answer ≡ Ok script) × TakesTranscript script old new
-replayed name (Ok script) status old new ends done = (script, refl, replayed_script script old new (sym ends.ended ∙ done) ends.written)
-replayed name (Err read.Missing) status old new ends done = absurd (omega (arith, ends.ended, done))
-replayed name (Err read.Failed) status old new ends done = absurd (omega (arith, ends.ended, done))
-replayed name (Err read.Memory) status old new ends done = absurd (omega (arith, ends.ended, done))
+of_work : (w : Work) (file : List ℕ) → IsOfFile (outcome_of_work w file).status
+of_work (work.Replay classes) file = of_script (layout.table_in classes.now) file
+of_work work.ReplayBuiltIn file = of_script built_in_table file
+of_work work.Check file = of_table file
+of_work (work.Show version) file = of_packets version file
 
--- a run that says of a line that it is refused was answered a script with such a line
-pub refused : (name : Text) (answer : ReadAnswer) (status : ℕ) (old new : Option (List ℕ)) → EndsWith (outcome_of_read name answer) status old new → status ≡ bad_script → (script : List ℕ) × (answer ≡ Ok script) × IsRefused script
-refused name (Ok script) status old new ends e = (script, refl, refused_script script (sym ends.ended ∙ e))
-refused name (Err read.Missing) status old new ends e = absurd (omega (arith, ends.ended, e))
-refused name (Err read.Failed) status old new ends e = absurd (omega (arith, ends.ended, e))
-refused name (Err read.Memory) status old new ends e = absurd (omega (arith, ends.ended, e))
+same_status : (status given : ℕ) → status ≡ given → IsOfFile given → IsOfFile status
+same_status status given e h = subst (λ (n : ℕ). IsOfFile n) (sym e) h
 
--- a run that says that there is no file was answered so
-pub missing : (name : Text) (answer : ReadAnswer) (status : ℕ) (old new : Option (List ℕ)) → EndsWith (outcome_of_read name answer) status old new → status ≡ no_file → answer ≡ Err read.Missing
-missing name (Ok script) status old new ends e = absurd (not_missing script (sym ends.ended ∙ e))
-missing name (Err read.Missing) status old new ends e = refl
-missing name (Err read.Failed) status old new ends e = absurd (omega (arith, ends.ended, e))
-missing name (Err read.Memory) status old new ends e = absurd (omega (arith, ends.ended, e))
+-- work that was done has one of the statuses of a file
+pub done_work : (w : Work) (file : List ℕ) (result : Result ℕ WriteRefusal) (old new : Option (List ℕ))
+    → IfOk result (λ status. EndsWith (outcome_of_work w file) status old new) → IfOk result (λ status. IsOfFile status)
+done_work w file (Ok status) old new ends = same_status status (outcome_of_work w file).status ends.ended (of_work w file)
+done_work w file (Err why) old new ends = tt
 
--- a script with a refused line has that outcome
-pub refused_next : (name : Text) (answer : ReadAnswer) (script : List ℕ) → answer ≡ Ok script → IsRefused script → (outcome_of_read name answer).status ≡ bad_script
-refused_next name answer script is bad = rw is (rw (bad.1, outcome_of_script) refl)
+pub of_command : (result : Result ℕ WriteRefusal) → IfOk result (λ status. IsOfFile status) → IfOk result (λ status. IsOfCommand status)
+of_command (Ok status) h = inr h
+of_command (Err why) h = tt
 
--- a script whose lines are all read has the outcome of one that is replayed
-pub accepted_next : (name : Text) (answer : ReadAnswer) (script : List ℕ) → answer ≡ Ok script → IsAccepted script → (outcome_of_read name answer).status ≡ replay_done
-accepted_next name answer script is good = rw is (rw (good.1, outcome_of_script) refl)
+-- the status of a command's end
+pub command_status : (result : Result ℕ WriteRefusal) → IfOk result (λ status. IsOfCommand status) → IsStatus (status_of result)
+command_status (Ok status) h = inr (inr h)
+command_status (Err write.Failed) h = inr (inl (inl refl))
+command_status (Err write.Memory) h = inr (inl (inr refl))
 
--- a script is replayed or refused
-script_status : (script : List ℕ) → ((outcome_of_script script).status ≡ replay_done) ⊎ ((outcome_of_script script).status ≡ bad_script)
-script_status script = by_reading (built_script script) refl
-  where
-    by_reading : (r : Result (List Line) ℕ) → built_script script ≡ r → ((outcome_of_script script).status ≡ replay_done) ⊎ ((outcome_of_script script).status ≡ bad_script)
-    by_reading (Ok lines) read = inl (rw (read, outcome_of_script) refl)
-    by_reading (Err line) read = inr (rw (read, outcome_of_script) refl)
+-- it is never that of words that aren't understood
+pub understood : (result : Result ℕ WriteRefusal) → IfOk result (λ status. IsOfCommand status) → status_of result ≡ words_unknown → ⊥
+understood (Ok status) (inl e) h = absurd (omega (arith, e, h))
+understood (Ok status) (inr (inl e)) h = absurd (omega (arith, e, h))
+understood (Ok status) (inr (inr (inl e))) h = absurd (omega (arith, e, h))
+understood (Ok status) (inr (inr (inr (inl e)))) h = absurd (omega (arith, e, h))
+understood (Ok status) (inr (inr (inr (inr e)))) h = absurd (omega (arith, e, h))
+understood (Err write.Failed) k h = absurd (omega (arith, h))
+understood (Err write.Memory) k h = absurd (omega (arith, h))
 
-done_or_bad : (status given : ℕ) → status ≡ given → (given ≡ replay_done) ⊎ (given ≡ bad_script) → IsStatus status
-done_or_bad status given e (inl d) = inl (e ∙ d)
-done_or_bad status given e (inr d) = inr (inr (inr (inl (e ∙ d))))
+-- a status of its own says that it was done
+pub not_early : (status : ℕ) → IsOfCommand status → IsEarly status → ⊥
+not_early status (inl e) (inl h) = absurd (omega (arith, e, h))
+not_early status (inr (inl e)) (inl h) = absurd (omega (arith, e, h))
+not_early status (inr (inr (inl e))) (inl h) = absurd (omega (arith, e, h))
+not_early status (inr (inr (inr (inl e)))) (inl h) = absurd (omega (arith, e, h))
+not_early status (inr (inr (inr (inr e)))) (inl h) = absurd (omega (arith, e, h))
+not_early status (inl e) (inr h) = absurd (omega (arith, e, h))
+not_early status (inr (inl e)) (inr h) = absurd (omega (arith, e, h))
+not_early status (inr (inr (inl e))) (inr h) = absurd (omega (arith, e, h))
+not_early status (inr (inr (inr (inl e)))) (inr h) = absurd (omega (arith, e, h))
+not_early status (inr (inr (inr (inr e)))) (inr h) = absurd (omega (arith, e, h))
 
--- a run that follows a read ends with one of the statuses
-pub status_after : (name : Text) (answer : ReadAnswer) (status : ℕ) (old new : Option (List ℕ)) → Ends (outcome_of_read name answer) status old new → IsStatus status
-status_after name answer status old new (inr early) = inr (inr (inr (inr early.0)))
-status_after name (Ok script) status old new (inl ends) = done_or_bad status (outcome_of_script script).status ends.ended (script_status script)
-status_after name (Err read.Missing) status old new (inl ends) = inr (inr (inl ends.ended))
-status_after name (Err read.Failed) status old new (inl ends) = inr (inr (inr (inr (inl ends.ended))))
-status_after name (Err read.Memory) status old new (inl ends) = inr (inr (inr (inr (inr ends.ended))))
+-- only the sink's or the command's want of memory ends it so
+pub memory_of : (result : Result ℕ WriteRefusal) → IfOk result (λ status. IsOfCommand status) → status_of result ≡ no_memory
+    → result ≡ Err write.Memory
+memory_of (Ok status) known is = absurd (not_early status known (inr is))
+memory_of (Err write.Failed) known is = absurd (omega (arith, is))
+memory_of (Err write.Memory) known is = refl
+
+-- ---- ends
+
+-- an end as a status
+pub ends_of : (outcome : Outcome) (result : Result ℕ WriteRefusal) (old new : Option (List ℕ))
+    → EndsAs outcome result old new → Ends outcome (status_of result) old new
+ends_of outcome (Ok status) old new ends = inl ends
+ends_of outcome (Err write.Failed) old new ends = inr (inl refl, ends)
+ends_of outcome (Err write.Memory) old new ends = inr (inr refl, ends)
+
+pub by_outcome : (outcome : Outcome) (status : ℕ) (old new : Option (List ℕ)) → Ends outcome status old new
+    → (status ≡ outcome.status) ⊎ IsEarly status
+by_outcome outcome status old new (inl ends) = inl ends.ended
+by_outcome outcome status old new (inr early) = inr early.0

@@ -1,5 +1,8 @@
 mod Answered
+mod Caused
 mod Named
-mod Played
+mod Ran
 mod Reading
+mod Replayed
+mod Tabled
 mod Told

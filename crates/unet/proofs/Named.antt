@@ -3,7 +3,7 @@ use Rattle.std.proofs.Common.{ℕ, List, ◌++◌, Option, arith}
 use Rattle.std.specs.Io.KnownBytes.{Appends}
 use Rattle.net_core.specs.Taken.{AppendsPrefix}
 use Rattle.net_core.proofs.Written.{Appends-append, AppendsPrefix-append, AppendsPrefix-longer}
-use Rattle.unet.specs.Ends.{TakesPrefix}
+use Rattle.transcripts.specs.Takes.{TakesPrefix}
 
 -- a prefix without the last byte is a prefix
 pub prefix : (old new : Option (List ℕ)) (text : List ℕ) → AppendsPrefix old new text → TakesPrefix old new text

@@ -1,20 +1,27 @@
-// `unet`: replays a script of world edits, ticks and deliveries, and writes its transcript.
+// `unet`: replays a script of world edits, ticks and deliveries over a class table, and writes its
+// transcript; checks class tables; and shows packets.
 //
 // `main` opens the outside; what the program does is `start`, whose contract ties its exit status and
-// its text to the definitions. It stands on `script_text` for what a script is and on `replay_core`
-// for what its lines do.
+// its text to the definitions. It stands on `program_model` for what words ask for, on
+// `script_reading` for scripts, on `replay_core` for what their lines do and on `event_text` for what
+// they tell, on `table_text` for tables in words and on `packet_text` for packets.
 //
-//     main -- words_of --> start --> run -- files.read --> answer --> play
-//               words     exit status   the script's bytes   status     text
+//     main -- words_of --> start --> run --> do_command -- files.read --> answer --> play, check, show
+//               words     exit status       the files' bytes            status     text
 #![tactic(auto)]
 
 mod answer;
+mod check;
+mod command;
 mod host;
-mod play;
 mod read_all;
+mod replay;
 mod run;
+mod said;
+mod show;
 mod start;
 mod status;
+mod table;
 #[cfg(test)]
 mod tests;
 mod words;

@@ -1,78 +1,63 @@
-// What a run does: the words, then the read of the script's file, then what it answered.
-ghost use Rattle.std.specs.Prelude.{◌≡◌, ◌⊎◌, ℕ, List, map, string_bytes, true, false, IfOk, OnErr, Some, Ok, Err};
-ghost use Rattle.net_core.specs.Counts.{one_more, Rose, WriteCause, WriteShortage};
-ghost use Rattle.net_core.specs.Folder.{Folder, contents_of, Lacks};
-ghost use Rattle.unet.specs.Words.{is_replay, script_in};
-ghost use Rattle.unet.specs.Statuses.{replay_done, words_unknown, no_file, bad_script, outside_failed, no_memory, IsEarly, IsStatus};
-ghost use Rattle.unet.specs.Outcome.{ReadAnswer, outcome_after, outcome_of, words_refused};
-ghost use Rattle.unet.specs.Causes.{IsAccepted, IsRefused, TakesTranscript, NoFault, OneFault, reads_after};
-ghost use Rattle.unet.specs.Ends.{Ends, EndsWith, TakesPrefix};
+// What a run does: the words, then what they ask for.
+ghost use Rattle.std.specs.Prelude.{◌≡◌, ◌⊎◌, map, string_bytes, Some, None};
+ghost use Rattle.script_model.specs.Lines.{Text};
+ghost use Rattle.program_model.specs.Words.{Replay, command_of};
+ghost use Rattle.net_core.specs.Counts.{Rose};
+ghost use Rattle.net_core.specs.Folder.{Folder};
+ghost use Rattle.unet.specs.Causes.{NoFault, OneFault};
+ghost use Rattle.unet.specs.Ends.{Ends};
+ghost use Rattle.unet.specs.Outcome.{outcome_of, words_refused};
+ghost use Rattle.unet.specs.Runs.{RunsWords, TakesTranscript, LacksFirst};
+ghost use Rattle.unet.specs.Statuses.{all_done, words_unknown, outside_failed, no_memory, IsEarly, IsStatus, status_of};
 
-use crate::answer::answer;
+use crate::command::do_command;
 use crate::status::{NO_MEMORY, OUTSIDE_FAILED, WORDS_UNKNOWN};
-use crate::words::script_name;
+use crate::words::command_of;
 use net_core::{Files, Sink, WriteRefusal, write_all};
 use std::alloc::Global;
 
 /// Does what the words say, and answers the status: one of those of `specs/Statuses`.
 ///
-/// Words that aren't understood, a missing file and a script with a refused line write one line
-/// that says so, and nothing else. Where a read or a write failed, or there was no memory, a prefix
-/// of what would have been written was.
+/// Words that aren't understood, a missing file, a refused class table, and a script or a file of
+/// packets with a bad line write one line that says so, and nothing else. Where a read or a write
+/// failed, or there was no memory, a prefix of what would have been written was.
 pub fn run<F: Files, S: Sink>(alloc: Global, words: &[String], files: &mut F, out: &mut S) -> u8
     ensures statuses { IsStatus result }
 
-    // The run ends as the definition says of what the read answered, told folder or not.
-    ensures answered { (read : ReadAnswer) × Ends (outcome_after (map string_bytes words.now) read)
-        result (S.taken out.old) (S.taken out.new) }
+    // The run ends as the definition says of what its reads answered, told folder or not, and the
+    // files are read in turn: each once, none for words that aren't understood, and no script where
+    // the table is refused.
+    ensures answered { RunsWords (F.folder files.old) (map string_bytes words.now) result
+        (S.taken out.old) (S.taken out.new) (F.reads files.old) (F.reads files.new) }
 
     // Where the folder is told, the run ends as the definition says of it.
     ensures outcome { (folder : Folder) → F.folder files.old ≡ Some folder
         → Ends (outcome_of folder (map string_bytes words.now))
         result (S.taken out.old) (S.taken out.new) }
 
-    // A transcript is that of the lines which the rules of every script read from the file.
-    ensures transcript { result ≡ replay_done
-        → (folder : Folder) → F.folder files.old ≡ Some folder
-        → (script : List ℕ)
-        × (contents_of folder (script_in (map string_bytes words.now)) ≡ Some script)
-        × TakesTranscript script (S.taken out.old) (S.taken out.new) }
+    // So each status comes exactly where the definition has it, or the run ended early.
+    ensures status { (folder : Folder) → F.folder files.old ≡ Some folder
+        → (result ≡ (outcome_of folder (map string_bytes words.now)).status) ⊎ IsEarly result }
 
-    // When each refusal comes, both ways.
+    // A replay's output is the transcript of its script over its table.
+    ensures transcript { (classes script : Text)
+        → command_of (map string_bytes words.now) ≡ Some (Replay classes script)
+        → result ≡ all_done
+        → (folder : Folder) → F.folder files.old ≡ Some folder
+        → TakesTranscript folder classes script (S.taken out.old) (S.taken out.new) }
+
+    // The words alone decide whether they are understood.
     ensures words_refused { result ≡ words_unknown
-        → is_replay (map string_bytes words.now) ≡ false }
-    ensures words_first { is_replay (map string_bytes words.now) ≡ false
+        → command_of (map string_bytes words.now) ≡ None }
+    ensures words_first { command_of (map string_bytes words.now) ≡ None
         → (result ≡ words_unknown) ⊎ IsEarly result }
-    ensures no_file { result ≡ no_file
-        → (folder : Folder) → F.folder files.old ≡ Some folder
-        → Lacks (Some folder) (script_in (map string_bytes words.now)) }
-    ensures file_next { is_replay (map string_bytes words.now) ≡ true
-        → (folder : Folder) → F.folder files.old ≡ Some folder
-        → Lacks (Some folder) (script_in (map string_bytes words.now))
-        → (result ≡ no_file) ⊎ IsEarly result }
-    ensures script_refused { result ≡ bad_script
-        → (folder : Folder) → F.folder files.old ≡ Some folder
-        → (script : List ℕ)
-        × (contents_of folder (script_in (map string_bytes words.now)) ≡ Some script)
-        × IsRefused script }
-    ensures script_next { is_replay (map string_bytes words.now) ≡ true
-        → (folder : Folder) → F.folder files.old ≡ Some folder
-        → (script : List ℕ)
-        → contents_of folder (script_in (map string_bytes words.now)) ≡ Some script
-        → IsRefused script → (result ≡ bad_script) ⊎ IsEarly result }
 
-    // With accepted words, a good script and no fault, all is done, or there was no memory.
-    ensures complete { is_replay (map string_bytes words.now) ≡ true
-        → (folder : Folder) → F.folder files.old ≡ Some folder
-        → (script : List ℕ)
-        → contents_of folder (script_in (map string_bytes words.now)) ≡ Some script
-        → IsAccepted script → (result ≡ replay_done) ⊎ IsEarly result }
-
-    // Want of memory hides neither unknown words nor a missing file, unless it was the sink's.
-    ensures words_memory { is_replay (map string_bytes words.now) ≡ false → result ≡ no_memory
+    // Want of memory hides neither unknown words nor a missing file, where it is the first that is
+    // read, unless it was the sink's.
+    ensures words_memory { command_of (map string_bytes words.now) ≡ None → result ≡ no_memory
         → Rose (S.shortages out.old) (S.shortages out.new) }
     ensures file_memory { (folder : Folder) → F.folder files.old ≡ Some folder
-        → Lacks (Some folder) (script_in (map string_bytes words.now)) → result ≡ no_memory
+        → LacksFirst folder (command_of (map string_bytes words.now)) → result ≡ no_memory
         → Rose (S.shortages out.old) (S.shortages out.new) }
 
     ensures fault { result ≡ outside_failed
@@ -80,17 +65,22 @@ pub fn run<F: Files, S: Sink>(alloc: Global, words: &[String], files: &mut F, ou
     ensures no_fault { (result ≡ outside_failed)
         ⊎ NoFault (F.faults files.old) (S.faults out.old) (F.faults files.new) (S.faults out.new) }
 
-    // The script is read once, and nothing is read for words that aren't understood.
-    ensures reads { F.reads files.new
-        ≡ reads_after (F.reads files.old) (map string_bytes words.now) }
     ensures folder { F.folder files.new ≡ F.folder files.old }
 {
-    match script_name(words) {
-        Some(name) => {
-            let read = files.read(name);
-            answer(alloc, name, read, out)
-        }
+    match command_of(words) {
+        Some(command) => status_of(do_command(alloc, &command, files, out)),
         None => refuse_words(out),
+    }
+}
+
+/// The status with which a run ends: that of what was done, or of the outside's refusal.
+fn status_of(done: Result<u8, WriteRefusal>) -> u8
+    ensures { result ≡ status_of done }
+{
+    match done {
+        Ok(status) => status,
+        Err(WriteRefusal::Failed) => OUTSIDE_FAILED,
+        Err(WriteRefusal::Memory) => NO_MEMORY,
     }
 }
 

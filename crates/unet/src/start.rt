@@ -5,9 +5,10 @@ ghost use Rattle.std.specs.IoError.{error_kind};
 ghost use Rattle.std.specs.Process.{exit_status};
 ghost use Rattle.std.specs.Vec.Iter.{into_iter_items};
 ghost use Rattle.net_core.specs.Folder.{Folder};
-ghost use Rattle.unet.specs.Causes.{NoFault, OneFault, reads_after};
+ghost use Rattle.unet.specs.Causes.{NoFault, OneFault};
 ghost use Rattle.unet.specs.Ends.{Ends};
-ghost use Rattle.unet.specs.Outcome.{ReadAnswer, outcome_after, outcome_of};
+ghost use Rattle.unet.specs.Outcome.{outcome_of};
+ghost use Rattle.unet.specs.Runs.{RunsWords};
 ghost use Rattle.unet.specs.Statuses.{no_memory, outside_failed};
 
 use crate::run::run;
@@ -59,14 +60,12 @@ pub fn start<F: Files, S: Sink>(
 ) -> ExitCode
     ensures no_words { OnErr words (exit_status result ≡ no_memory) }
     ensures untouched { OnErr words ((files.new ≡ files.old) × (out.new ≡ out.old)) }
-    ensures answered { IfOk words (λ words. (read : ReadAnswer)
-        × Ends (outcome_after (map string_bytes words.items) read) (exit_status result)
-        (S.taken out.old) (S.taken out.new)) }
+    ensures answered { IfOk words (λ words. RunsWords (F.folder files.old)
+        (map string_bytes words.items) (exit_status result)
+        (S.taken out.old) (S.taken out.new) (F.reads files.old) (F.reads files.new)) }
     ensures outcome { IfOk words (λ words. (folder : Folder) → F.folder files.old ≡ Some folder
         → Ends (outcome_of folder (map string_bytes words.items)) (exit_status result)
         (S.taken out.old) (S.taken out.new)) }
-    ensures reads { IfOk words (λ words. F.reads files.new
-        ≡ reads_after (F.reads files.old) (map string_bytes words.items)) }
     ensures fault { exit_status result ≡ outside_failed
         → OneFault (F.faults files.old) (S.faults out.old) (F.faults files.new) (S.faults out.new) }
     ensures no_fault { (exit_status result ≡ outside_failed)

@@ -1,5 +1,5 @@
 // Whole runs over folders and sinks in memory.
-use crate::answer::answer;
+use crate::answer::{Work, answer};
 use crate::run::run;
 use net_core::{Blob, Entry, MemFiles, MemSink};
 use std::alloc::{AllocError, Global};
@@ -60,19 +60,19 @@ fn scripts_have_their_transcripts(rt: HostRuntime) -> Result<(), Fail> {
         (
             "join 1 8000\nset 1 hp 3\n",
             5,
-            "unet: script refused at line 2: Unbuilt\n",
+            "unet: script refused at line 2: NoActor\n",
         ),
         (
             "join 1 8000\njoin 1 8000\n",
             5,
-            "unet: script refused at line 2: Unbuilt\n",
+            "unet: script refused at line 2: Taken\n",
         ),
         (
             "tick\nctick 1\n",
             5,
-            "unet: script refused at line 2: Unbuilt\n",
+            "unet: script refused at line 2: NoPlayer\n",
         ),
-        ("tick\r\n", 5, "unet: script refused at line 1: Unbuilt\n"),
+        ("tick\r\n", 5, "unet: script refused at line 1: Shape\n"),
     ] {
         for longest in [usize::MAX, 1] {
             let (answer, written) = replayed(alloc, script, &[], &[], longest)?;
@@ -95,9 +95,14 @@ fn words_and_files_are_looked_at_first(rt: HostRuntime) -> Result<(), Fail> {
             "unet: words not understood\n",
         ),
         (&["replay", "-", ""][..], 2, "unet: words not understood\n"),
-        (&["replay", "T", "S"][..], 2, "unet: words not understood\n"),
+        (
+            &["replay", "-T", "S"][..],
+            2,
+            "unet: words not understood\n",
+        ),
         (&["--help"][..], 2, "unet: words not understood\n"),
         (&["replay", "-", "S"][..], 3, "unet: no file S\n"),
+        (&["replay", "T", "S"][..], 3, "unet: no file T\n"),
     ] {
         let words = words_of(alloc, texts)?;
         let mut files = MemFiles::new(alloc, Vec::new(alloc), Vec::new(alloc));
@@ -105,6 +110,110 @@ fn words_and_files_are_looked_at_first(rt: HostRuntime) -> Result<(), Fail> {
         let answer = run(alloc, &words, &mut files, &mut out);
         assert_eq!(rt; answer, status);
         assert_eq!(rt; out.as_slice(), text.as_bytes());
+    }
+    Ok(())
+}
+
+/// A class of doors, which are always relevant.
+const DOORS: &str =
+    "{\"classes\":[{\"name\":\"Door\",\"path\":\"/Game/Door\",\"parent\":null,\"relevancy\":\"always\",\"cull\":0,\"priority\":1,\"properties\":[{\"name\":\"open\",\"type\":\"bool\",\"cond\":\"none\",\"init\":0}],\"calls\":[]}]}";
+
+const OPENING: &str = "join 1 8000\nspawn Door 0 0\nset 1 open 1\ntick\ndown 1 1\ndump 1\n";
+
+/// Runs these words over a folder with a table `T`, one without classes `B`, and a script `S`.
+fn run_doors(alloc: Global, texts: &[&str]) -> Result<(u8, Vec<u8>), Fail> {
+    let words = words_of(alloc, texts)?;
+    let mut entries = Vec::new(alloc);
+    entries.push(Entry::copied(alloc, "T", DOORS.as_bytes())?)?;
+    entries.push(Entry::copied(alloc, "B", b"{\"classes\":[]}")?)?;
+    entries.push(Entry::copied(alloc, "S", OPENING.as_bytes())?)?;
+    let mut files = MemFiles::new(alloc, entries, Vec::new(alloc));
+    let mut out = MemSink::new(alloc, Vec::new(alloc));
+    let status = run(alloc, &words, &mut files, &mut out);
+    Ok((status, out.into_vec()))
+}
+
+#[test]
+fn scripts_are_read_by_their_table(rt: HostRuntime) -> Result<(), Fail> {
+    let alloc = rt.alloc();
+    for (table, script, status, text) in [
+        (
+            "T",
+            "S",
+            0,
+            "joined 1\nactor 1\nsent 1 1 018019002400b903020300e228acad4cc180207a7b9323501000000000200000000030801020\ndown 1 1 taken\ncopies 1 1\ncopy 1 1 Door open x=0 y=0 role=0 open=1\n",
+        ),
+        ("-", "S", 5, "unet: script refused at line 2: NoClass\n"),
+        ("B", "S", 4, "unet: class table refused at table: Range\n"),
+        ("T", "N", 3, "unet: no file N\n"),
+        ("N", "S", 3, "unet: no file N\n"),
+    ] {
+        let (answer, written) = run_doors(alloc, &["replay", table, script])?;
+        assert_eq!(rt; answer, status, "{text}");
+        assert_eq!(rt; written.as_slice(), text.as_bytes(), "{text}");
+    }
+    Ok(())
+}
+
+/// Runs these words over a folder with a file `F`.
+fn run_over(alloc: Global, texts: &[&str], file: &str) -> Result<(u8, Vec<u8>), Fail> {
+    let words = words_of(alloc, texts)?;
+    let mut entries = Vec::new(alloc);
+    entries.push(Entry::copied(alloc, "F", file.as_bytes())?)?;
+    let mut files = MemFiles::new(alloc, entries, Vec::new(alloc));
+    let mut out = MemSink::new(alloc, Vec::new(alloc));
+    let status = run(alloc, &words, &mut files, &mut out);
+    Ok((status, out.into_vec()))
+}
+
+#[test]
+fn tables_have_their_summary(rt: HostRuntime) -> Result<(), Fail> {
+    let alloc = rt.alloc();
+    for (words, file, status, text) in [
+        (
+            &["check", "-"],
+            "",
+            0,
+            "classes 3\nclass Pawn handles 7 calls 4\nclass Flag handles 5 calls 0\nclass Purse handles 4 calls 0\ndigest fda1167c93708da363b0ced8c309b008d59c6b16\n",
+        ),
+        (
+            &["check", "F"],
+            "{\"classes\":[]}",
+            4,
+            "unet: class table refused at table: Range\n",
+        ),
+        (&["check", "G"], "", 3, "unet: no file G\n"),
+        (&["check", "-F"], "", 2, "unet: words not understood\n"),
+    ] {
+        let (answer, written) = run_over(alloc, words, file)?;
+        assert_eq!(rt; answer, status, "{text}");
+        assert_eq!(rt; written.as_slice(), text.as_bytes(), "{text}");
+    }
+    Ok(())
+}
+
+#[test]
+fn packets_are_shown(rt: HostRuntime) -> Result<(), Fail> {
+    let alloc = rt.alloc();
+    for (words, file, status, text) in [
+        (&["show", "F"], "05c00120\n", 0, "packet 5 1\nack 3\n"),
+        (
+            &["show2", "F"],
+            "0140008000000080",
+            0,
+            "packet 1 0\nhead 1 00000001\n",
+        ),
+        (
+            &["show", "F"],
+            "05c00120\n5g\n",
+            9,
+            "unet: line 2: not hex\n",
+        ),
+        (&["show", "-"], "", 2, "unet: words not understood\n"),
+    ] {
+        let (answer, written) = run_over(alloc, words, file)?;
+        assert_eq!(rt; answer, status, "{text}");
+        assert_eq!(rt; written.as_slice(), text.as_bytes(), "{text}");
     }
     Ok(())
 }
@@ -147,7 +256,11 @@ fn a_script_may_be_long(rt: HostRuntime) -> Result<(), Fail> {
     for bytes in [4_097, 16_384, 65_537, 1_000_000] {
         let script = comments(alloc, bytes)?;
         let mut out = MemSink::new(alloc, Vec::new(alloc));
-        assert_eq!(rt; answer(alloc, "S", Ok(script), &mut out), 0, "{bytes}");
+        assert_eq!(rt;
+            answer(alloc, &Work::ReplayBuiltIn, "S", Ok(script), &mut out),
+            Ok(0),
+            "{bytes}"
+        );
         assert!(rt; out.as_slice().is_empty(), "{bytes}");
     }
     Ok(())

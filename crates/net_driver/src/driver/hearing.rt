@@ -13,17 +13,19 @@ ghost use Rattle.world_table.specs.Stands.{Stands as StandsWorld};
 ghost use Rattle.shadow_changes.specs.Samples.{Samples};
 ghost use Rattle.net_driver.specs.Served.{Served, Seat, seat_of, has_joined, with_seat, heard, lost_now, answer_for, top_for};
 ghost use Rattle.net_driver.specs.Serves.{Serves, IsSpent};
-ghost use Rattle.net_driver.specs.Ends.{StandsEnd, end_at};
+ghost use Rattle.server_end.specs.Stands.{StandsEnd};
+ghost use Rattle.net_driver.specs.Ends.{end_at};
 ghost use Rattle.net_driver.specs.Chairs.{dead_for};
-ghost use Rattle.net_driver.specs.Calls.{IsCalled, IsMade};
-ghost use Rattle.net_driver.specs.declared.server_end.ServerEnd.{ServerEnd as EndSpec};
+ghost use Rattle.server_end.specs.Calls.{IsCalled};
+ghost use Rattle.net_driver.specs.Calls.{IsMade};
+ghost use Rattle.server_end.specs.declared.server_end.ServerEnd.{ServerEnd as EndSpec};
 
-use super::Driver;
+use super::{Driver, is_past};
 use crate::chair::{Place, key_of, place_of, put_dead};
-use crate::server_end::ServerEnd;
 use bit_io::Memory;
 use class_layout::{Arg, Call, CallAnswer, Classes};
 use net_core::{Guid, Player, Steps};
+use server_end::ServerEnd;
 use slab::Slab;
 use std::alloc::Global;
 use std::marker::Brand;
@@ -53,7 +55,6 @@ impl<'a> Driver<'a> {
         requires stands { IsSpent self.old ⊎ ((s : Served) × Serves self.old s
             × (has_joined s player ≡ true)
             × IsMade (table_in self.old.layout) s.edits actor call args.now) }
-        requires numbers { self.old.greatest < 2 ^ 61 }
         ensures serves { OnOk result ((s : Served) → Serves self.old s
             → Serves self.new
             (with_seat (heard (Event.Call actor call (map arg_of args.now))) player s)) }
@@ -71,13 +72,17 @@ impl<'a> Driver<'a> {
         if self.spent {
             return Err(Memory);
         }
-        let Some(key) = key_of(self.chairs.as_slice(), player) else {
-            return Ok(CallAnswer::Dead);
-        };
         self.classes.keeps_rules();
         let Some(called) = called::<Brand>(&self.world, actor, call, Blank::new(1)) else {
             unreachable!();
         };
+        let Some(key) = key_of(self.chairs.as_slice(), player) else {
+            return Ok(CallAnswer::Dead);
+        };
+        if is_past(self.greatest) {
+            self.die(player, Some(key), 0);
+            return Err(Memory);
+        }
         match call_at(&mut self.ends, key, self.alloc, called, actor, call, args) {
             Ok(answer) => {
                 self.greatest += 8192;
@@ -105,7 +110,7 @@ impl<'a> Driver<'a> {
 }
 
 /// Drops the end under a key, if there is one.
-fn drop_end(ends: &mut Slab<ServerEnd>, key: Option<usize>)
+pub(super) fn drop_end(ends: &mut Slab<ServerEnd>, key: Option<usize>)
     ensures { (k : ℕ) → (key ≡ Some k → ⊥) → end_at ends.new.slots k ≡ end_at ends.old.slots k }
 {
     if let Some(key) = key {

@@ -10,17 +10,18 @@ ghost use Rattle.net_driver.specs.Served.{Served, Seat, seat_of, has_joined, wit
 ghost use Rattle.net_driver.specs.Serves.{Serves, IsSpent};
 ghost use Rattle.net_driver.specs.Ends.{end_at};
 ghost use Rattle.net_driver.specs.Chairs.{dead_for};
-ghost use Rattle.net_driver.specs.Hearing.{verdict_for, handovers_for, MayHearEnd, IsHeard};
-ghost use Rattle.net_driver.specs.declared.server_end.ServerEnd.{ServerEnd as EndSpec};
+ghost use Rattle.server_end.specs.Hearing.{MayHearEnd, IsHeard};
+ghost use Rattle.net_driver.specs.Hearing.{verdict_for, handovers_for};
+ghost use Rattle.server_end.specs.declared.server_end.ServerEnd.{ServerEnd as EndSpec};
 
 use super::Driver;
 use crate::chair::key_of;
-use crate::server_end::ServerEnd;
 use bit_io::Memory;
 use class_layout::HandedList;
 use handovers::Outcome;
 use net_core::Player;
 use protocol_model::Verdict;
+use server_end::ServerEnd;
 use server_hearing::Heard;
 use slab::Slab;
 use std::alloc::Global;

@@ -58,7 +58,7 @@ fn words_have_their_statuses(rt: HostRuntime) -> Result<(), Fail> {
             &[b"unet", b"replay", b"-", b"bad"],
             3,
             5,
-            "unet: script refused at line 2: Unbuilt\n",
+            "unet: script refused at line 2: NoActor\n",
         ),
         (
             &[b"unet", b"replay", b"-", b"S\xff"],

@@ -15,30 +15,45 @@ use Rattle.actor_sights.proofs.Among.{among_more}
 use Rattle.actor_sights.proofs.showing.put_own.Goals as goal
 
 pub loop-i-preserved : goal.loop-i-preserved
-loop-i-preserved c = λ edits player stands own class values.
-    let p : Prop = prop_of c.prop-item.result in
-    let there : slice_get (map prop_of c.args.class.now.props) c.loop-i.i ≡ Some p =
-    slice_get-map prop_of c.args.class.now.props c.loop-i.i
-    ∙ ap (option_map prop_of) (slice_get_read c.args.class.now.props
-    (length c.args.class.now.props) c.loop-i.i c.prop-item.result refl
-    (let n = ap (λ (ps : List PropValue). length ps) c.as_slice-prop-items.ensures in omega (n, arith))
-    (c.prop-item.is ∙ ap (λ (ps : List PropValue). get_or ps c.loop-i.i c.prop-item.result)
-    c.as_slice-prop-items.ensures)) in
-    let at : prop_at (class_of (table_in c.args.world.now.layout) edits c.args.actor) (c.loop-i.i + 4) ≡ Some p =
-    ap (λ (k : Class). prop_at k (c.loop-i.i + 4)) class
-    ∙ own_at (class_value c.args.world.now.layout.segments c.args.class.now) c.loop-i.i p there in
-    c.in_ok-put_property.ensures edits player p stands own at refl values
-    ∙ ap (λ (ps : List Pair). ps ++ visible_among (table_in c.args.world.now.layout) edits player c.args.actor
-    ((c.loop-i.i + 4, p) ∷ []))
-    (c.loop-i.invariant edits player stands own class values)
-    ∙ append_assoc (pairs_of c.args.pairs.now) _ _
-    ∙ ap (λ (ps : List Pair). pairs_of c.args.pairs.now ++ ps)
-    (sym (among_more (table_in c.args.world.now.layout) edits player c.args.actor c.loop-i.i (c.loop-i.i + 4)
-    (map prop_of c.args.class.now.props) p there refl))
+loop-i-preserved c = record {
+  pairs = λ edits player stands own class values.
+      let p : Prop = prop_of c.prop-item.result in
+      let there : slice_get (map prop_of c.args.class.now.props) c.loop-i.i ≡ Some p =
+      slice_get-map prop_of c.args.class.now.props c.loop-i.i
+      ∙ ap (option_map prop_of) (slice_get_read c.args.class.now.props
+      (length c.args.class.now.props) c.loop-i.i c.prop-item.result refl
+      (let n = ap (λ (ps : List PropValue). length ps) c.as_slice-prop-items.ensures in omega (n, arith))
+      (c.prop-item.is ∙ ap (λ (ps : List PropValue). get_or ps c.loop-i.i c.prop-item.result)
+      c.as_slice-prop-items.ensures)) in
+      let at : prop_at (class_of (table_in c.args.world.now.layout) edits c.args.actor) (c.loop-i.i + 4) ≡ Some p =
+      ap (λ (k : Class). prop_at k (c.loop-i.i + 4)) class
+      ∙ own_at (class_value c.args.world.now.layout.segments c.args.class.now) c.loop-i.i p there in
+      c.in_ok-put_property.ensures.pairs edits player p stands own at refl values
+      ∙ ap (λ (ps : List Pair). ps ++ visible_among (table_in c.args.world.now.layout) edits player c.args.actor
+      ((c.loop-i.i + 4, p) ∷ []))
+      (c.loop-i.invariant.pairs edits player stands own class values)
+      ∙ append_assoc (pairs_of c.args.pairs.now) _ _
+      ∙ ap (λ (ps : List Pair). pairs_of c.args.pairs.now ++ ps)
+      (sym (among_more (table_in c.args.world.now.layout) edits player c.args.actor c.loop-i.i (c.loop-i.i + 4)
+      (map prop_of c.args.class.now.props) p there refl));
+  fit = λ k is values fit.
+      let p : Prop = prop_of c.prop-item.result in
+      let there : slice_get (map prop_of c.args.class.now.props) c.loop-i.i ≡ Some p =
+      slice_get-map prop_of c.args.class.now.props c.loop-i.i
+      ∙ ap (option_map prop_of) (slice_get_read c.args.class.now.props
+      (length c.args.class.now.props) c.loop-i.i c.prop-item.result refl
+      (let n = ap (λ (ps : List PropValue). length ps) c.as_slice-prop-items.ensures in omega (n, arith))
+      (c.prop-item.is ∙ ap (λ (ps : List PropValue). get_or ps c.loop-i.i c.prop-item.result)
+      c.as_slice-prop-items.ensures)) in
+      c.in_ok-put_property.ensures.fit k p
+      (ap (λ (k : Class). prop_at k (c.loop-i.i + 4)) is
+      ∙ own_at (class_value c.args.world.now.layout.segments c.args.class.now) c.loop-i.i p there) values
+      (c.loop-i.invariant.fit k is values fit);
+}
 
-pub returns : goal.returns
-returns c = λ edits player stands own class values.
-    c.loop-i.invariant edits player stands own class values
+pub returns-clause-pairs : goal.returns-clause-pairs
+returns-clause-pairs c = λ edits player stands own class values.
+    c.loop-i.invariant.pairs edits player stands own class values
     ∙ ap (λ (ps : List Prop). pairs_of c.args.pairs.now
     ++ visible_among (table_in c.args.world.now.layout) edits player c.args.actor (numbered_from 4 ps))
     (take_all c.loop-i.i (map prop_of c.args.class.now.props)

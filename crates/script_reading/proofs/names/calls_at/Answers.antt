@@ -1,4 +1,4 @@
-use Rattle.std.proofs.Common.{◌≡◌, ◌∙◌, ◌≤◌, List, ap, sym, subst, map, length}
+use Rattle.std.proofs.Common.{◌∙◌, ◌≤◌, ap, sym, subst, map, length}
 use Rattle.protocol_model.specs.Value.{Class}
 use Rattle.class_members.specs.Members.{call_of}
 use Rattle.script_reading.proofs.Finding.{class_there, no_class_there, few_calls}

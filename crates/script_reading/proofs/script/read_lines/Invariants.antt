@@ -7,6 +7,7 @@ use Rattle.script_reading.specs.Kept.{nothing}
 use Rattle.script_reading.specs.Judging.{lines_by}
 use Rattle.script_reading.specs.Gives.{table_of, kept_of}
 use Rattle.script_reading.specs.Prepended.{prepended}
+use Rattle.script_reading.specs.ToldBy.{Told}
 use Rattle.script_reading.proofs.Whole.{left_of}
 use Rattle.script_reading.proofs.script.read_lines.Given as goal
 
@@ -18,6 +19,7 @@ invariant-loop-rest l = record {
   lines : prepended (map line_of l.lines)
       (lines_by (table_in l.classes) l.live (kept_of l.reader) l.number (pieces_after 10 l.rest))
       ≡ lines_by (table_in l.classes) l.live nothing 1 (pieces 10 l.fn.bytes);
+  told : Told (table_in l.classes) (kept_of l.reader) l.lines;
 }
 
 abbrev pub decreases-loop-rest : goal.decreases-loop-rest

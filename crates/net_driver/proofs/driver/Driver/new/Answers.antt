@@ -1,5 +1,7 @@
-use Rattle.std.proofs.Common.{List, [], sym, subst, arith}
+use Rattle.std.proofs.Common.{List, [], refl, sym, subst, arith}
 use Rattle.std.proofs.lemmas.Option.{none-some}
+use Rattle.driver_sights.specs.declared.graves.Grave.{Grave}
+use Rattle.driver_sights.specs.Graves.{AreGraves}
 use Rattle.class_layout.specs.Tables.{table_in}
 use Rattle.net_driver.specs.declared.chair.Chair.{Chair}
 use Rattle.net_driver.specs.Serves.{AreSeated}
@@ -13,8 +15,12 @@ returns-clause-serves c = record {
   changes = c.new-3.ensures;
   from_one = λ a. tt;
   there = λ a spawned e. absurd (none-some spawned e);
-  seated = subst (λ (cs : List Chair). AreSeated (table_in c.args.classes.now) [] [] 0 c.new-4.result.slots cs [])
-      (sym c.new-5.ensures.items) tt;
+  ticks = search;
+  sampled = λ a. record { until = refl; sized = refl; none = λ e. refl };
+  graves = subst (λ (gs : List Grave). AreGraves c.args.classes.now [] gs) (sym c.new-4.ensures.items) (record { each = tt; once = tt });
+  fits = tt;
+  seated = subst (λ (cs : List Chair). AreSeated (table_in c.args.classes.now) [] [] 0 c.new-5.result.slots cs [])
+      (sym c.new-6.ensures.items) tt;
   rising = search;
   few = omega arith;
   kept = search;

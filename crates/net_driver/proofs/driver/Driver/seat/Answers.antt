@@ -1,6 +1,6 @@
 use Rattle.std.proofs.Common.{sym, subst}
 use Rattle.net_driver.specs.Serves.{Serves}
-use Rattle.net_driver.proofs.Answers.{on_ok}
+use Rattle.server_end.proofs.Answers.{on_ok}
 use Rattle.net_driver.proofs.Joining.{seated}
 use Rattle.net_driver.proofs.driver.Driver.seat.Goals as goal
 
@@ -14,6 +14,6 @@ returns-clause-serves c =
       others =
           c.in-Ok.ensures.updates.others;
     })
-    c.in_ok-end.ensures.player c.in_ok-end.ensures.count c.in_ok-end.ensures.stands put
+    c.in_ok-end.ensures.player c.in_ok-end.ensures.count c.in_ok-end.ensures.stands put c.requires.least
     (subst (λ d. Serves d s) (sym c.self.view_is) h) fresh few)
     c.add_chair.ensures.ok

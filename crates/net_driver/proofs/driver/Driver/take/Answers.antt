@@ -1,14 +1,14 @@
-use Rattle.std.proofs.Common.{◌≡◌, inl, inr, ℕ, List, map, Some, None, refl, sym, ap, ◌∙◌, subst, arith}
+use Rattle.std.proofs.Common.{◌≡◌, inl, inr, ℕ, List, map, Some, refl, sym, ap, ◌∙◌, subst, arith}
 use Rattle.std.proofs.lemmas.Bool.{false≢true}
 use Rattle.std.proofs.lemmas.Option.{none-some}
 use Rattle.class_layout.specs.Tables.{table_in}
 use Rattle.handovers.specs.Handovers.{handover_of}
 use Rattle.net_driver.specs.Chairs.{place_in, living_key}
 use Rattle.net_driver.specs.Hearing.{verdict_for, handovers_for}
-use Rattle.net_driver.specs.Served.{end_for, past_for}
 use Rattle.net_driver.specs.Serves.{Drive, Serves}
 use Rattle.net_driver.specs.declared.chair.Chair.{Chair}
 use Rattle.net_driver.proofs.CallHeard.{heard_by}
+use Rattle.net_driver.proofs.Fitting.{fits_got}
 use Rattle.net_driver.proofs.Placing.{dies}
 use Rattle.net_driver.proofs.TakeServed.{hearer, may_hear, got, got_verdict, got_handed, dead_verdict, dead_handed}
 use Rattle.net_driver.proofs.driver.Driver.take.Goals as goal
@@ -21,6 +21,7 @@ returns-in_default-clause-serves c = λ s now.
     (sym (c.key_of.ensures ∙ ap (λ (cs : List Chair). living_key (place_in cs c.args.player)) c.as_slice.ensures.value
     ∙ ap (λ (d : Drive). living_key (place_in d.chairs c.args.player)) c.self.view_is) ∙ c.in_default.is)
     ∙ ap living_key f)))
+    (λ t nt fit. fits_got (table_in d.layout) s.edits d.graves t c.args.bytes.now fit)
 
 pub returns-in_default-clause-verdict : goal.returns-in_default-clause-verdict
 returns-in_default-clause-verdict c = λ s seat now at.

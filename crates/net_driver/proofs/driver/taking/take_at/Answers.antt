@@ -1,10 +1,10 @@
 use Rattle.std.proofs.Common.{◌≡◌, Some, sym, ap, ◌∙◌, subst}
 use Rattle.std.specs.Option.{option_copied_mut}
 use Rattle.std.proofs.lemmas.Option.{same_Some}
-use Rattle.net_driver.specs.Hearing.{MayHearEnd, IsHeard}
+use Rattle.server_end.specs.Hearing.{MayHearEnd, IsHeard}
 use Rattle.net_driver.specs.Ends.{end_at}
-use Rattle.net_driver.specs.declared.server_end.ServerEnd.{ServerEnd}
-use Rattle.net_driver.proofs.Answers.{each_ok}
+use Rattle.server_end.specs.declared.server_end.ServerEnd.{ServerEnd}
+use Rattle.server_end.proofs.Answers.{each_ok}
 use Rattle.net_driver.proofs.InMemory.{set_there}
 use Rattle.net_driver.proofs.driver.taking.take_at.Goals as goal
 

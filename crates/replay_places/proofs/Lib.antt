@@ -1,0 +1,5 @@
+pub mod Handed
+pub mod Ticked
+pub mod Delivered
+pub mod Copied
+pub mod NewOnes

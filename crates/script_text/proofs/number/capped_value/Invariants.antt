@@ -1,7 +1,0 @@
-use Rattle.std.proofs.Common.{◌≡◌, ◌≤◌, min, drop}
-use Rattle.script_model.specs.Script.{digits_value}
-use Rattle.script_text.proofs.number.capped_value.Given as goal
-
-abbrev pub invariant-loop-digit : goal.invariant-loop-digit
-invariant-loop-digit l =
-    (l.value ≤ 10000000000) × (min 10000000000 (digits_value l.value (drop l.digit-index l.text)) ≡ min 10000000000 (digits_value 0 l.text))
