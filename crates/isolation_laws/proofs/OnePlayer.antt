@@ -130,11 +130,11 @@ delivered_same table one other side k p (Some bytes) =
     (after_datagram table one side (λ verdict. Answered side p.number k (Says verdict)) bytes p) (after_datagram table other side (λ verdict. Answered side p.number k (Says verdict)) bytes p) refl
 
 -- two ways to go on that do the same with each player
-abbrev DoSame : (does did : Player → Reported) → Type 0
+abbrev pub DoSame : (does did : Player → Reported) → Type 0
 DoSame does did = (p : Player) → (does p).0 ≡ (did p).0
 
 -- so does a delivery by number
-deliver_same : (table : Table) (one other : Edits) (side : Side) (k : ℕ) → DoSame (after_delivery table one side k) (after_delivery table other side k)
+pub deliver_same : (table : Table) (one other : Edits) (side : Side) (k : ℕ) → DoSame (after_delivery table one side k) (after_delivery table other side k)
 deliver_same table one other side k p = delivered_same table one other side k p (slice_get (out_at table (other_side side) p) (k - 1))
 
 -- so do several
@@ -222,7 +222,7 @@ line_same table n (Forge side player bytes) story other e h =
 -- ---- lines about others
 
 -- another number is another player
-is_other : (who n : ℕ) → not (who == n) ≡ true → (who == n) ≡ false
+pub is_other : (who n : ℕ) → not (who == n) ≡ true → (who == n) ≡ false
 is_other who n h = grind (arith, nat_tests)
 
 -- a line about another player leaves this one

@@ -217,7 +217,7 @@ module _ (n : ℕ) where
   -- ---- players
 
   -- no two have this number
-  abbrev Alone : List Player → Type 0
+  abbrev pub Alone : List Player → Type 0
   Alone [] = Unit {0}
   Alone (p ∷ players) = (p.number ≡ n → mine n players ≡ None) × Alone players
 
@@ -372,8 +372,8 @@ module _ (n : ℕ) where
       by false t q = subst (MayJoin lines) (sym (none_stays table line story t e)) q
 
   lines_go : (table : Table) (lines : List Line) (told : Story × List Report) → MayJoin lines (mine n told.0.players) → Alone told.0.players → shown_of told.1 ≡ sends_in table (mine n told.0.players)
-      → shown_of (fold (also_line table) told lines).1 ≡ sends_in table (mine n (fold (also_line table) told lines).0.players)
-  lines_go table [] told m h e = e
+      → (shown_of (fold (also_line table) told lines).1 ≡ sends_in table (mine n (fold (also_line table) told lines).0.players)) × Alone (fold (also_line table) told lines).0.players
+  lines_go table [] told m h e = (e, h)
   lines_go table (line ∷ lines) told m h e =
       let g = line_goes table line told.0 (λ t. joins_first line lines (mine n told.0.players) m t) h in
       lines_go table lines (also_line table told line) (may_go table line lines told.0 (mine n told.0.players) refl m) g.alone
@@ -381,7 +381,11 @@ module _ (n : ℕ) where
 
   -- a player's `sent` lines are what the ticks of its server's feed send
   pub sent_by_feed : (table : Table) (lines : List Line) → joins_once n lines ≡ true → sent_lines table lines n ≡ sends_in table (mine n (story_of table lines).0.players)
-  sent_by_feed table lines h = lines_go table lines (first_story, []) h tt refl
+  sent_by_feed table lines h = (lines_go table lines (first_story, []) h tt refl).0
+
+  -- no two players of a story have the number
+  pub stand_alone : (table : Table) (lines : List Line) → joins_once n lines ≡ true → Alone (story_of table lines).0.players
+  stand_alone table lines h = (lines_go table lines (first_story, []) h tt refl).1
 
   abbrev pub heard_sends : Option (End × List Event) → Sents
   heard_sends o = elim o [ None ↦ [] | Some heard ↦ sends_of heard.0 heard.1 ]
@@ -426,14 +430,14 @@ answers_by_feed table n one other side e a m args =
 -- ---- unseen lines
 
 -- an unseen line joins no player
-once_without : (n : ℕ) (line : Line) → joins n line ≡ false → (before after : List Line) → joins_once n (before ++ after) ≡ joins_once n (before ++ line ∷ after)
+pub once_without : (n : ℕ) (line : Line) → joins n line ≡ false → (before after : List Line) → joins_once n (before ++ after) ≡ joins_once n (before ++ line ∷ after)
 once_without n line f [] after = rw f refl
 once_without n line f (first ∷ before) after =
     ap (λ b. cond (joins n first) (not b) (joins_once n (before ++ after))) (any_skip (joins n) line f before after)
     ∙ ap (λ b. cond (joins n first) (not (list_any (joins n) (before ++ line ∷ after))) b) (once_without n line f before after)
 
 -- it isn't the player's join
-unseen_joins : (table : Table) (n : ℕ) (before : List Line) (line : Line) (after : List Line) → is_unseen table n before line after ≡ true → joins n line ≡ false
+pub unseen_joins : (table : Table) (n : ℕ) (before : List Line) (line : Line) (after : List Line) → is_unseen table n before line after ≡ true → joins n line ≡ false
 unseen_joins table n before (Join player budget version) after h = not-true (player == n) h
 unseen_joins table n before (ApplyEdit x) after h = refl
 unseen_joins table n before TickAll after h = refl

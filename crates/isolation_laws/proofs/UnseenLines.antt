@@ -103,27 +103,28 @@ found_lacks table n a one w p found =
 
 -- ---- each kind of line
 
--- the player is found alike with the line and without it
-abbrev FoundSame : Table → ℕ → (before : List Line) → Line → (after : List Line) → Type 0
-FoundSame table n before line after = found_in table n (before ++ after) ≡ found_in table n (before ++ line ∷ after)
+-- the line leaves the player as it is, and the lines after it show the player the same sights
+abbrev pub Passes : Table → ℕ → (before : List Line) → Line → (after : List Line) → Type 0
+Passes table n before line after = (found_in table n before ≡ found_in table n (before ++ line ∷ [])) × Course table n before (before ++ line ∷ []) after
 
--- the player found alike before the line stays so after it
-goes_on : (table : Table) (n : ℕ) (before : List Line) (line : Line) (after : List Line) → found_in table n before ≡ found_in table n (before ++ line ∷ []) → Course table n before (before ++ line ∷ []) after → FoundSame table n before line after
-goes_on table n before line after e course = follow table n before (before ++ line ∷ []) after course e ∙ ap (found_in table n) (append_assoc before (line ∷ []) after)
+-- so the player is found alike with the line and without it
+pub goes_on : (table : Table) (n : ℕ) (before : List Line) (line : Line) (after : List Line) → Passes table n before line after → found_in table n (before ++ after) ≡ found_in table n (before ++ line ∷ after)
+goes_on table n before line after h = follow table n before (before ++ line ∷ []) after h.1 h.0 ∙ ap (found_in table n) (append_assoc before (line ∷ []) after)
 
 -- lines about others
-others_unseen : (table : Table) (n : ℕ) (before : List Line) (line : Line) (after : List Line) → edit_in line ≡ None → is_of_other n line ≡ true → FoundSame table n before line after
-others_unseen table n before line after e other =
-    goes_on table n before line after
-    (sym (ap (λ (told : Story × List Report). mine n told.0.players) (story_more table before line) ∙ other_line table n line (story_of table before).0 other))
-    (same_course table n before (before ++ line ∷ []) after (sym (one_more before line ∙ ap (λ (o : Option Edit). with_edit o (edits_of before)) e)))
+others_unseen : (table : Table) (n : ℕ) (before : List Line) (line : Line) (after : List Line) → edit_in line ≡ None → is_of_other n line ≡ true → Passes table n before line after
+others_unseen table n before line after e other = (
+  sym (ap (λ (told : Story × List Report). mine n told.0.players) (story_more table before line) ∙ other_line table n line (story_of table before).0 other),
+  same_course table n before (before ++ line ∷ []) after (sym (one_more before line ∙ ap (λ (o : Option Edit). with_edit o (edits_of before)) e)),
+)
 
 -- an edit that no sight shows leaves the player
 edits_unseen : (table : Table) (n : ℕ) (before : List Line) (x : Edit) (after : List Line) (test : Edits → Bool) (W : List Line → Type 0) → Blinds table n x (edits_of before) test W → W before
-    → Along test before after → Along test (before ++ ApplyEdit x ∷ []) after → FoundSame table n before (ApplyEdit x) after
-edits_unseen table n before x after test W b w h k =
-    goes_on table n before (ApplyEdit x) after (sym (ap (λ (told : Story × List Report). mine n told.0.players) (story_more table before (ApplyEdit x))))
-    (edit_course table n x (edits_of before) test W b [] before (before ++ ApplyEdit x ∷ []) after refl (one_more before (ApplyEdit x)) w h k)
+    → Along test before after → Along test (before ++ ApplyEdit x ∷ []) after → Passes table n before (ApplyEdit x) after
+edits_unseen table n before x after test W b w h k = (
+  sym (ap (λ (told : Story × List Report). mine n told.0.players) (story_more table before (ApplyEdit x))),
+  edit_course table n x (edits_of before) test W b [] before (before ++ ApplyEdit x ∷ []) after refl (one_more before (ApplyEdit x)) w h k,
+)
 
 -- a test with the line and without it, in two halves
 from_parts : (test : Edits → Bool) (before : List Line) (line : Line) (after : List Line) → holds_from test before line after ≡ true → Along test before after × Along test (before ++ line ∷ []) after
@@ -132,14 +133,14 @@ from_parts test before line after h =
 
 -- edits of actors out of sight
 edits_out_of_sight : (table : Table) (n : ℕ) (before : List Line) (x : Edit) (a : ℕ) (after : List Line) → named_actor x ≡ Some a → ((c : ℕ) → x ≡ Destroy c → ⊥)
-    → holds_from (is_irrelevant table n a) before (ApplyEdit x) after ≡ true → FoundSame table n before (ApplyEdit x) after
+    → holds_from (is_irrelevant table n a) before (ApplyEdit x) after ≡ true → Passes table n before (ApplyEdit x) after
 edits_out_of_sight table n before x a after e d h =
     let parts = from_parts (is_irrelevant table n a) before (ApplyEdit x) after h in
     edits_unseen table n before x after (is_irrelevant table n a) (λ (l : List Line). Unit {0})
     (record { grows = λ one line t w. tt; shows = λ newer one q r s w p found. edit_unseen table x a newer (edits_of before) n (earlier_of p) e d r s }) tt parts.0 parts.1
 
 -- destroys of actors never relevant
-destroys_out_of_sight : (table : Table) (n : ℕ) (before : List Line) (a : ℕ) (after : List Line) → holds_always (is_irrelevant table n a) before (ApplyEdit (Destroy a)) after ≡ true → FoundSame table n before (ApplyEdit (Destroy a)) after
+destroys_out_of_sight : (table : Table) (n : ℕ) (before : List Line) (a : ℕ) (after : List Line) → holds_always (is_irrelevant table n a) before (ApplyEdit (Destroy a)) after ≡ true → Passes table n before (ApplyEdit (Destroy a)) after
 destroys_out_of_sight table n before a after h =
     let both = and_parts (holds_along (is_irrelevant table n a) [] before) (holds_from (is_irrelevant table n a) before (ApplyEdit (Destroy a)) after) h in
     let parts = from_parts (is_irrelevant table n a) before (ApplyEdit (Destroy a)) after both.1 in
@@ -153,7 +154,7 @@ destroys_out_of_sight table n before a after h =
 
 -- values for owners, of actors that the player doesn't own
 owners_values_unseen : (table : Table) (n : ℕ) (before : List Line) (a h : ℕ) (v : ℤ) (after : List Line) → has_cond is_owner_only table (edits_of before) a h ≡ true
-    → holds_from (λ edits. not (owns edits n a)) before (ApplyEdit (Set a h v)) after ≡ true → FoundSame table n before (ApplyEdit (Set a h v)) after
+    → holds_from (λ edits. not (owns edits n a)) before (ApplyEdit (Set a h v)) after ≡ true → Passes table n before (ApplyEdit (Set a h v)) after
 owners_values_unseen table n before a h v after c k =
     let parts = from_parts (λ edits. not (owns edits n a)) before (ApplyEdit (Set a h v)) after k in
     edits_unseen table n before (Set a h v) after (λ edits. not (owns edits n a)) (λ (l : List Line). Unit {0})
@@ -165,7 +166,7 @@ owners_values_unseen table n before a h v after c k =
 
 -- values that are switched off
 custom_values_unseen : (table : Table) (n : ℕ) (before : List Line) (a h : ℕ) (v : ℤ) (after : List Line) → has_cond is_custom table (edits_of before) a h ≡ true
-    → holds_from (λ edits. not (is_on edits a h)) before (ApplyEdit (Set a h v)) after ≡ true → FoundSame table n before (ApplyEdit (Set a h v)) after
+    → holds_from (λ edits. not (is_on edits a h)) before (ApplyEdit (Set a h v)) after ≡ true → Passes table n before (ApplyEdit (Set a h v)) after
 custom_values_unseen table n before a h v after c k =
     let parts = from_parts (λ edits. not (is_on edits a h)) before (ApplyEdit (Set a h v)) after k in
     edits_unseen table n before (Set a h v) after (λ edits. not (is_on edits a h)) (λ (l : List Line). Unit {0})
@@ -178,7 +179,7 @@ custom_values_unseen table n before a h v after c k =
 -- ---- all of them
 
 -- a hidden value leaves the player
-value_hidden : (table : Table) (n : ℕ) (before : List Line) (x : Edit) (after : List Line) → hides_value table n before x after ≡ true → FoundSame table n before (ApplyEdit x) after
+value_hidden : (table : Table) (n : ℕ) (before : List Line) (x : Edit) (after : List Line) → hides_value table n before x after ≡ true → Passes table n before (ApplyEdit x) after
 value_hidden table n before (Set a h v) after k =
     elim (or_cases (has_cond is_owner_only table (edits_of before) a h && holds_from (λ edits. not (owns edits n a)) before (ApplyEdit (Set a h v)) after)
     (has_cond is_custom table (edits_of before) a h && holds_from (λ edits. not (is_on edits a h)) before (ApplyEdit (Set a h v)) after) k) [
@@ -198,7 +199,7 @@ value_hidden table n before (Team p t) after k = absurd (cc)
 value_hidden table n before (Give a t) after k = absurd (cc)
 
 -- an edit out of sight leaves the player
-out_of_sight : (table : Table) (n : ℕ) (before : List Line) (x : Edit) (after : List Line) → is_out_of_sight table n before x after ≡ true → FoundSame table n before (ApplyEdit x) after
+out_of_sight : (table : Table) (n : ℕ) (before : List Line) (x : Edit) (after : List Line) → is_out_of_sight table n before x after ≡ true → Passes table n before (ApplyEdit x) after
 out_of_sight table n before (Destroy a) after k = destroys_out_of_sight table n before a after k
 out_of_sight table n before (Set a h v) after k = edits_out_of_sight table n before (Set a h v) a after refl (λ c e. absurd (cc)) k
 out_of_sight table n before (Own a p) after k = edits_out_of_sight table n before (Own a p) a after refl (λ c e. absurd (cc)) k
@@ -212,8 +213,8 @@ out_of_sight table n before (Spawn class u v) after k = absurd (cc)
 out_of_sight table n before (View p u v) after k = absurd (cc)
 out_of_sight table n before (Team p t) after k = absurd (cc)
 
--- each unseen line leaves the player
-unseen : (table : Table) (n : ℕ) (before : List Line) (line : Line) (after : List Line) → is_unseen table n before line after ≡ true → FoundSame table n before line after
+-- each unseen line passes
+pub unseen : (table : Table) (n : ℕ) (before : List Line) (line : Line) (after : List Line) → is_unseen table n before line after ≡ true → Passes table n before line after
 unseen table n before (ApplyEdit x) after h = elim (or_cases (hides_value table n before x after) (is_out_of_sight table n before x after) h) [
   | inl e ↦ value_hidden table n before x after e
   | inr e ↦ out_of_sight table n before x after e
@@ -231,7 +232,7 @@ unseen table n before (Forge side player bytes) after h = others_unseen table n 
 
 -- both ends hear the same
 pub feeds_stay : FeedsStayEqual
-feeds_stay table n before after line h side = ap (option_map (λ (p : Player). (end_of table side p, feed_of side p))) (unseen table n before line after h)
+feeds_stay table n before after line h side = ap (option_map (λ (p : Player). (end_of table side p, feed_of side p))) (goes_on table n before line after (unseen table n before line after h))
 
 -- ---- lines that ask
 
@@ -267,5 +268,7 @@ pub asking_changes_nothing : AskingChangesNothing
 asking_changes_nothing table n before after line h side =
     let stays = asking_stays table n line (story_of table before).0 h in
     ap (option_map (λ (p : Player). (end_of table side p, feed_of side p)))
-    (goes_on table n before line after (sym (ap (λ (told : Story × List Report). mine n told.0.players) (story_more table before line) ∙ stays.1))
-    (same_course table n before (before ++ line ∷ []) after (sym (one_more before line ∙ ap (λ (o : Option Edit). with_edit o (edits_of before)) stays.0))))
+    (goes_on table n before line after (
+      sym (ap (λ (told : Story × List Report). mine n told.0.players) (story_more table before line) ∙ stays.1),
+      same_course table n before (before ++ line ∷ []) after (sym (one_more before line ∙ ap (λ (o : Option Edit). with_edit o (edits_of before)) stays.0)),
+    ))

@@ -64,15 +64,19 @@ abbrev pub numbered : (first : ℕ) → List (List ℕ) → List (ℕ × List �
 numbered n [] = []
 numbered n (bytes ∷ packets) = (n, bytes) ∷ numbered (n + 1) packets
 
--- the player's `sent` lines are the packets of its server end's own feed, numbered from 1
-abbrev pub SendsOut : Type 0
-SendsOut =
-    (table : Table) (player : ℕ) (lines : List Line) → IsTrue (joins_once player lines)
-    → sent_lines table lines player
-    ≡ unwrap_or
+-- the packets of a server end that hears the player's feed and nothing else, numbered from 1
+abbrev pub packets_alone : Table → List Line → (player : ℕ) → List (ℕ × List ℕ)
+packets_alone table lines player =
+    unwrap_or
     (option_map (λ (heard : End × List Event). numbered 1 (out_of heard.0 heard.1))
     (heard_by table lines AtServer player))
     []
+
+-- the player's `sent` lines are those packets
+abbrev pub SendsOut : Type 0
+SendsOut =
+    (table : Table) (player : ℕ) (lines : List Line) → IsTrue (joins_once player lines)
+    → sent_lines table lines player ≡ packets_alone table lines player
 
 -- with an unseen line and without it the player's ends hear the same
 abbrev pub FeedsStayEqual : Type 0

@@ -42,14 +42,14 @@ record IsMadeOn (past : Past) (ch : ℕ) (m : Message) : Type 0 where
   is : m ≡ made.1
 
 -- an open that the sight shows
-record ShownOpen (past : Past) (a : ℕ) (class : Class) (values : List Pair) : Type 0 where
-  i : ℕ
-  seen : Seen
-  there : slice_get (sight_of past) i ≡ Some seen
-  relevant : seen.relevant ≡ true
-  actor : a ≡ seen.actor
-  class_is : class ≡ seen.class
-  values_are : values ≡ seen.values
+pub record ShownOpen (past : Past) (a : ℕ) (class : Class) (values : List Pair) : Type 0 where
+  pub i : ℕ
+  pub seen : Seen
+  pub there : slice_get (sight_of past) i ≡ Some seen
+  pub relevant : seen.relevant ≡ true
+  pub actor : a ≡ seen.actor
+  pub class_is : class ≡ seen.class
+  pub values_are : values ≡ seen.values
 
 -- an open shows its class and values
 shown_open : (past : Past) (exports : List Segment) (a : ℕ) (class : Class) (values : List Pair) → OpensSeen past (Opens exports a class values) → ShownOpen past a class values
@@ -77,7 +77,7 @@ module _ (entries : List Entry) (is : IsTable entries) (left right : End) (l r :
   seeing : Seeing (table_of entries) player edits (sights_of (past_of left l))
   seeing = subst (λ (x : Table). Seeing x player edits (sights_of (past_of left l))) same t.seeing
 
-  shown_at : (newer older : Past) (ch n : ℕ) (exports : List Segment) (class : Class) (values : List Pair) → past_of left l ≡ newer ++ Made ch n (Opens exports a class values) 0 ∷ older → ShownOpen older a class values
+  pub shown_at : (newer older : Past) (ch n : ℕ) (exports : List Segment) (class : Class) (values : List Pair) → past_of left l ≡ newer ++ Made ch n (Opens exports a class values) 0 ∷ older → ShownOpen older a class values
   shown_at newer older ch n exports class values e =
       let placed : HasPlace left older ch (Opens exports a class values) =
       each_at (DeedPlaced left) newer (Made ch n (Opens exports a class values) 0) older (subst (EachPlaced left) e (each_placed left (past_of left l) (run left right l r player edits segments t))) refl in

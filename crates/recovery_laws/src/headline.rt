@@ -18,6 +18,7 @@ ghost use Rattle.connection_laws.specs.Taken.{Falls};
 ghost use Rattle.headline_laws.specs.Players.{ArePlayable};
 ghost use Rattle.headline_laws.specs.Read.{AreRead};
 ghost use Rattle.recovery_laws.specs.Asleep.{CopiesSleeping};
+ghost use Rattle.recovery_laws.specs.Started.{Recovers};
 ghost use Rattle.recovery_laws.specs.Recovered.{
   TalksFaithfully,
   OpenedLast,
@@ -25,6 +26,8 @@ ghost use Rattle.recovery_laws.specs.Recovered.{
   SleepsAtBoth,
   AppliesLooseOnce,
 };
+
+use headline_laws::scripts::{scripts_hand_over_once, scripts_have_fair_verdicts};
 
 /// The two ends of such a player talk, and the client is faithful.
 pub fn players_talk_faithfully()
@@ -76,6 +79,17 @@ pub fn scripts_copy_sleepers()
     ensures { (table : Table) (lines : List Line) (p : Player) → AreRead table lines
         → IsHonestPlayer table lines p → CopiesSleeping table p }
 {}
+
+/// In an accepted script's story unreliable calls come once at most, no datagram of the player is
+/// answered as malformed or closes an end, sleeping actors are copied asleep, and each copy that has
+/// a channel started with a line of the script: a tick in which the server made the open that the
+/// client applied last, and whose initial-only values the copy has.
+pub fn scripts_recover()
+    ensures { (table : Table) (lines : List Line) → AreRead table lines → Recovers table lines }
+{
+    scripts_hand_over_once();
+    scripts_have_fair_verdicts();
+}
 
 /// The packets that a client takes have ascending numbers, and of each it hands on what is
 /// unreliable in it, each message once: so no unreliable call is handed over twice.

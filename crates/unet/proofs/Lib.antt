@@ -1,5 +1,6 @@
 mod Answered
 mod Caused
+mod Kept
 mod Named
 mod Ran
 mod Reading

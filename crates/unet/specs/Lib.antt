@@ -1,5 +1,6 @@
 pub mod Causes
 pub mod Ends
+pub mod Headline
 pub mod Outcome
 pub mod Runs
 pub mod Said

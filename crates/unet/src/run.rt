@@ -1,11 +1,14 @@
 // What a run does: the words, then what they ask for.
 ghost use Rattle.std.specs.Prelude.{◌≡◌, ◌⊎◌, map, string_bytes, Some, None};
 ghost use Rattle.script_model.specs.Lines.{Text};
+ghost use Rattle.replication_model.specs.Headline.{Holds};
+ghost use Rattle.isolation_laws.specs.Told.{ServesEachAlone};
 ghost use Rattle.program_model.specs.Words.{Replay, command_of};
 ghost use Rattle.net_core.specs.Counts.{Rose};
 ghost use Rattle.net_core.specs.Folder.{Folder};
 ghost use Rattle.unet.specs.Causes.{NoFault, OneFault};
 ghost use Rattle.unet.specs.Ends.{Ends};
+ghost use Rattle.unet.specs.Headline.{KeepsThroughout};
 ghost use Rattle.unet.specs.Outcome.{outcome_of, words_refused};
 ghost use Rattle.unet.specs.Runs.{RunsWords, TakesTranscript, LacksFirst};
 ghost use Rattle.unet.specs.Statuses.{all_done, words_unknown, outside_failed, no_memory, IsEarly, IsStatus, status_of};
@@ -45,6 +48,23 @@ pub fn run<F: Files, S: Sink>(alloc: Global, words: &[String], files: &mut F, ou
         → result ≡ all_done
         → (folder : Folder) → F.folder files.old ≡ Some folder
         → TakesTranscript folder classes script (S.taken out.old) (S.taken out.new) }
+
+    // The headline, after each line of the script: reliable calls are handed over as a prefix of those
+    // queued, and each settled actor's copy is the actor as its player sees it.
+    ensures headline { (classes script : Text)
+        → command_of (map string_bytes words.now) ≡ Some (Replay classes script)
+        → result ≡ all_done
+        → (folder : Folder) → F.folder files.old ≡ Some folder
+        → KeepsThroughout Holds folder classes script (S.taken out.old) (S.taken out.new) }
+
+    // And each connection is served as if it were alone: its packets are those of a server that hears
+    // its feed and nothing else, which holds what the player may see.
+    ensures isolation { (classes script : Text)
+        → command_of (map string_bytes words.now) ≡ Some (Replay classes script)
+        → result ≡ all_done
+        → (folder : Folder) → F.folder files.old ≡ Some folder
+        → KeepsThroughout ServesEachAlone folder classes script (S.taken out.old)
+        (S.taken out.new) }
 
     // The words alone decide whether they are understood.
     ensures words_refused { result ≡ words_unknown
