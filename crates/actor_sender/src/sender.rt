@@ -247,6 +247,9 @@ impl ActorSender {
         ensures { (past : Past) (samples : Samples) → Keeps self.now past samples
             → result ≡ is_quiet_as past actor dormant flush }
     {
+        if !dormant {
+            return false;
+        }
         match self.find(actor) {
             Some(record) => record.life.is_quiet(dormant, flush),
             None => false,

@@ -48,8 +48,11 @@ pub fn seen(
         → AreOf k values.now → IsTrue (pairs_fit k seen.values)) }
 {
     let mut seen = seen_asleep(alloc, player, actor, look);
-    put_built_in(&mut seen.values, look, seen.owns)?;
-    put_own(&mut seen.values, world, actor, class, seen.owns, values)?;
+    let room = Vec::with_capacity(alloc, class.props.len() + 3)?;
+    let mut pairs = PairList::from_vec(room);
+    put_built_in(&mut pairs, look, seen.owns)?;
+    put_own(&mut pairs, world, actor, class, seen.owns, values)?;
+    seen.values = pairs;
     Ok(seen)
 }
 

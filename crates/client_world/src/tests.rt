@@ -4,6 +4,7 @@ mod closing;
 mod copying;
 mod deeds;
 mod drafts;
+mod piles;
 mod sending;
 
 /// A server's first packet: the open of Pawn 2 on channel 1, which is at (10, -3) and has 75 hp.

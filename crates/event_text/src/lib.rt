@@ -30,5 +30,5 @@ pub use class_layout::Classes;
 pub use net_core::{Blob, Memory};
 pub use script_lines::Event;
 pub use transcript::print;
-pub use verdict::why_word;
+pub use verdict::{verdict_text, why_word};
 pub use words::bytes_text;

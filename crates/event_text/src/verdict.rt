@@ -67,7 +67,7 @@ fn cause_text(alloc: Global, cause: Cause) -> Result<String, Memory>
 }
 
 /// The words of a verdict.
-pub(crate) fn verdict_text(alloc: Global, verdict: Verdict) -> Result<String, Memory>
+pub fn verdict_text(alloc: Global, verdict: Verdict) -> Result<String, Memory>
     ensures { IfOk result (λ text. string_bytes text ≡ words (verdict_words verdict)) }
 {
     let text = match verdict {

@@ -10,7 +10,7 @@ use Rattle.table_model.specs.declared.TableWhy.TheVariants.{Range}
 use Rattle.protocol_model.specs.declared.LineWhy.TheVariants.{NoActor}
 use Rattle.std.specs.Prelude.{ℕ, List}
 use Rattle.protocol_model.specs.declared.Version.{Version}
-use Rattle.program_model.specs.Words.{Replay, Check, Show, command_of}
+use Rattle.program_model.specs.Words.{Replay, Check, Show, Sample, command_of}
 use Rattle.program_model.specs.Refused.{table_refused_text, script_refused_text}
 use Rattle.program_model.specs.Shown.{packets_of, show_text, line_refused_text}
 
@@ -31,6 +31,15 @@ first_version_is_shown = refl
 
 second_version_is_shown : command_of (codes "show2" ∷ codes "F" ∷ []) ≡ Some (Show Two (codes "F"))
 second_version_is_shown = refl
+
+most_ticks_are_read : command_of (codes "sample" ∷ codes "2000" ∷ []) ≡ Some (Sample 2000)
+most_ticks_are_read = refl
+
+no_more_ticks : command_of (codes "sample" ∷ codes "2001" ∷ []) ≡ None
+no_more_ticks = refl
+
+no_leading_zero : command_of (codes "sample" ∷ codes "06" ∷ []) ≡ None
+no_leading_zero = refl
 
 no_file_named_like_an_option : command_of (codes "show" ∷ codes "-f" ∷ []) ≡ None
 no_file_named_like_an_option = refl

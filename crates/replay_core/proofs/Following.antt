@@ -24,18 +24,21 @@ use Rattle.script_lines.specs.ToldRight.{kinds_of, has_tags, is_told_right, edit
 use Rattle.replay_core.specs.May.{May, MayAll}
 
 -- an edit that the definitions take and that is told right is taken
-edit_taken : (t : Table) (edits : Edits) (e : Edit) → refusal_of t edits (edit_of e) ≡ None → table.is_told_right t edits e ≡ true
+edit_taken : (t : Table) (edits : Edits) (e : Edit) → refusal_of t edits (edit_of e) ≡ None
+    → table.is_told_right t edits e ≡ true
     → refusal_in t edits e ≡ None
 edit_taken t edits e h told =
     by (refusal_of t edits (edit_of e)) (table.is_told_right t edits e) h told
   where
-    by : (o : Option world.EditRefusal) (b : Bool) → o ≡ None → b ≡ true → or_else o (then_some (not b) world.OutOfRange) ≡ None
+    by : (o : Option world.EditRefusal) (b : Bool) → o ≡ None → b ≡ true
+        → or_else o (then_some (not b) world.OutOfRange) ≡ None
     by None true h k = refl
     by None false h k = absurd (cc)
     by (Some why) b h k = h
 
 -- a call that the definitions may make and whose arguments have their kinds' tags is made
-call_made : (t : Table) (edits : Edits) (actor number : ℕ) (args : List Arg) → MayCall t edits actor number (map arg_of args)
+call_made : (t : Table) (edits : Edits) (actor number : ℕ) (args : List Arg)
+    → MayCall t edits actor number (map arg_of args)
     → has_tags t edits actor number args ≡ true → IsMade t edits actor number args
 call_made t edits actor number args may tags =
     let kinds : kinds_of (class_of t edits actor) number ≡ may.call.args =
@@ -62,7 +65,8 @@ may_one layout story (said.DownNew player every) h told few = h
 may_one layout story (said.UpNew player every) h told few = h
 may_one layout story (said.Call player actor call args) h told few =
     (h.0, call_made (table_in layout) story.edits actor call args h.1 told)
-may_one layout story (said.Multi actor call args) h told few = call_made (table_in layout) story.edits actor call args h told
+may_one layout story (said.Multi actor call args) h told few =
+    call_made (table_in layout) story.edits actor call args h told
 may_one layout story (said.ClientCall player actor call args) h told few = h
 may_one layout story (said.Dump player) h told few = h
 may_one layout story (said.Settled player actor) h told few = h
@@ -91,13 +95,16 @@ edits_after layout story (said.ClientForge player bytes) = (refl, omega arith)
 
 -- and all of them
 may_from : (layout : Layout) (story : Story) (lines : List Line) → FollowAll (table_in layout) story (map line_of lines)
-    → are_told_right (table_in layout) story.edits lines ≡ true → length story.edits + length lines < 2 ^ 61 → MayAll layout story lines
+    → are_told_right (table_in layout) story.edits lines ≡ true → length story.edits + length lines < 2 ^ 61
+    → MayAll layout story lines
 may_from layout story [] h told few = tt
 may_from layout story (line ∷ lines) h told few =
     let t = table_in layout in
     let after = edits_after layout story line in
-    let first = left_of (is_told_right t story.edits line) (are_told_right t (edits_with story.edits line) lines) told in
-    let rest = right_of (is_told_right t story.edits line) (are_told_right t (edits_with story.edits line) lines) told in
+    let first = left_of (is_told_right t story.edits line) (are_told_right t (edits_with story.edits line) lines)
+    told in
+    let rest = right_of (is_told_right t story.edits line) (are_told_right t (edits_with story.edits line) lines)
+    told in
     let now : length story.edits < 2 ^ 61 = less (length story.edits) (length lines) few in
     let most = after.1 in (
       may_one layout story line h.0 first now,
@@ -116,6 +123,8 @@ none_yet : (n : ℕ) → n < 2 ^ 61 → 0 + n < 2 ^ 61
 none_yet n h = omega arith
 
 -- the lines that a script reads
-pub lines_may : (layout : Layout) (script : List ℕ) (lines : List Line) → Reads (table_in layout) false script (map line_of lines)
+pub lines_may : (layout : Layout) (script : List ℕ) (lines : List Line)
+    → Reads (table_in layout) false script (map line_of lines)
     → are_told_right (table_in layout) [] lines ≡ true → length lines < 2 ^ 61 → MayAll layout first_story lines
-lines_may layout script lines h told few = may_from layout first_story lines (read_following (table_in layout) script (map line_of lines) h) told (none_yet (length lines) few)
+lines_may layout script lines h told few = may_from layout first_story lines
+    (read_following (table_in layout) script (map line_of lines) h) told (none_yet (length lines) few)

@@ -25,22 +25,26 @@ found : {X : Type 0} (f : Player → X) (table : Table) (edits : Edits) (side : 
 found {X} f table edits side n p h None = refl
 found {X} f table edits side n p h (Some bytes) =
     cond_both (nat_lt (n + 8192) (top_of (past_at table side p))) (p, Answered side p.number n Late ∷ [])
-    (after_datagram table edits side (λ verdict. Answered side p.number n (Says verdict)) bytes p) (λ (told : Reported). f told.0 ≡ f p)
+    (after_datagram table edits side (λ verdict. Answered side p.number n (Says verdict)) bytes p)
+    (λ (told : Reported). f told.0 ≡ f p)
     (λ q. refl) (λ q. h bytes p)
 
 -- what a delivery leaves
 pub by_delivery : {X : Type 0} (f : Player → X) (table : Table) (edits : Edits) (side : Side) (n : ℕ) (p : Player)
     → ((bytes : List ℕ) (q : Player) → f (with_event side (Got bytes) q) ≡ f q)
     → f (after_delivery table edits side n p).0 ≡ f p
-by_delivery {X} f table edits side n p h = found f table edits side n p h (slice_get (out_at table (other_side side) p) (n - 1))
+by_delivery {X} f table edits side n p h = found f table edits side n p h
+    (slice_get (out_at table (other_side side) p) (n - 1))
 
 -- what deliveries leave
-pub by_deliveries : {X : Type 0} (f : Player → X) (table : Table) (edits : Edits) (side : Side) (ns : List ℕ) (told : Reported)
+pub by_deliveries : {X : Type 0} (f : Player → X) (table : Table) (edits : Edits) (side : Side) (ns : List ℕ)
+    (told : Reported)
     → ((bytes : List ℕ) (q : Player) → f (with_event side (Got bytes) q) ≡ f q)
     → f (fold (also_delivery table edits side) told ns).0 ≡ f told.0
 by_deliveries {X} f table edits side [] told h = refl
 by_deliveries {X} f table edits side (n ∷ ns) told h =
-    by_deliveries f table edits side ns (also_delivery table edits side told n) h ∙ by_delivery f table edits side n told.0 h
+    by_deliveries f table edits side ns (also_delivery table edits side told n) h
+    ∙ by_delivery f table edits side n told.0 h
 
 -- ---- the number
 
@@ -52,11 +56,14 @@ told_number : (side : Side) (count : ℕ) (p : Player) → (with_told side count
 told_number AtServer count p = refl
 told_number AtClient count p = refl
 
-pub delivery_number : (table : Table) (edits : Edits) (side : Side) (n : ℕ) (p : Player) → (after_delivery table edits side n p).0.number ≡ p.number
-delivery_number table edits side n p = by_delivery (λ (q : Player). q.number) table edits side n p (λ bytes q. event_number side (Got bytes) q)
+pub delivery_number : (table : Table) (edits : Edits) (side : Side) (n : ℕ) (p : Player)
+    → (after_delivery table edits side n p).0.number ≡ p.number
+delivery_number table edits side n p = by_delivery (λ (q : Player). q.number) table edits side n p
+    (λ bytes q. event_number side (Got bytes) q)
 
 -- of a line
-pub line_number : (table : Table) (line : Line) (edits : Edits) (p : Player) → (line_does table line edits p).0.number ≡ p.number
+pub line_number : (table : Table) (line : Line) (edits : Edits) (p : Player)
+    → (line_does table line edits p).0.number ≡ p.number
 line_number table (Join player budget version) edits p = refl
 line_number table (ApplyEdit edit) edits p = refl
 line_number table TickAll edits p = refl
@@ -65,7 +72,8 @@ line_number table (Deliver side player n) edits p = delivery_number table edits 
 line_number table (DeliverNew side player every) edits p =
     let count = length (out_at table (other_side side) p) in
     by_deliveries (λ (q : Player). q.number) table edits side
-    (filter (is_kept every) (range_with_len (told_before side p + 1) (count - told_before side p))) (with_told side count p, [])
+    (filter (is_kept every) (range_with_len (told_before side p + 1) (count - told_before side p)))
+    (with_told side count p, [])
     (λ bytes q. event_number side (Got bytes) q) ∙ told_number side count p
 line_number table (CallTo side player a n args) edits p = event_number side (Call a n args) p
 line_number table (CallAll a n args) edits p = refl
@@ -76,7 +84,8 @@ line_number table (Forge side player bytes) edits p = event_number side (Got byt
 -- ---- the server's side
 
 -- of a line of the client
-pub client_seat : (table : Table) (line : Line) (edits : Edits) (p : Player) → line_side line ≡ AtClient → seat_in (line_does table line edits p).0 ≡ seat_in p
+pub client_seat : (table : Table) (line : Line) (edits : Edits) (p : Player) → line_side line ≡ AtClient
+    → seat_in (line_does table line edits p).0 ≡ seat_in p
 client_seat table (Join player budget version) edits p e = refl
 client_seat table (ApplyEdit edit) edits p e = refl
 client_seat table TickAll edits p e = refl
@@ -85,7 +94,8 @@ client_seat table (Deliver AtClient player n) edits p e = by_delivery seat_in ta
 client_seat table (Deliver AtServer player n) edits p e = absurd (cc)
 client_seat table (DeliverNew AtClient player every) edits p e =
     let count = length (out_at table AtServer p) in
-    by_deliveries seat_in table edits AtClient (filter (is_kept every) (range_with_len (p.told_client + 1) (count - p.told_client)))
+    by_deliveries seat_in table edits AtClient (filter (is_kept every)
+    (range_with_len (p.told_client + 1) (count - p.told_client)))
     (with_told AtClient count p, []) (λ bytes q. refl)
 client_seat table (DeliverNew AtServer player every) edits p e = absurd (cc)
 client_seat table (CallTo AtClient player a n args) edits p e = refl

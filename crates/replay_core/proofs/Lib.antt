@@ -8,3 +8,4 @@ pub mod Ticks
 pub mod Joins
 pub mod Seating
 pub mod Following
+pub mod Pairs

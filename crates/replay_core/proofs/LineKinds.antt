@@ -21,24 +21,34 @@ pub client_only : (line : Line) → is_client_side (line_side (line_of line)) �
     → ((player : ℕ) → line ≡ said.Dump player → ⊥)
     → ((player : ℕ) (bytes : List ℕ) → line ≡ said.ClientForge player bytes → ⊥)
     → ⊥
-client_only (said.Join player budget version) e no_client_tick no_down no_down_new no_client_call no_dump no_client_forge = cc
+client_only (said.Join player budget version) e no_client_tick no_down no_down_new no_client_call no_dump
+    no_client_forge = cc
 client_only (said.Edit edit) e no_client_tick no_down no_down_new no_client_call no_dump no_client_forge = cc
 client_only said.Tick e no_client_tick no_down no_down_new no_client_call no_dump no_client_forge = cc
-client_only (said.ClientTick player) e no_client_tick no_down no_down_new no_client_call no_dump no_client_forge = no_client_tick player refl
-client_only (said.Down player packet) e no_client_tick no_down no_down_new no_client_call no_dump no_client_forge = no_down player packet refl
+client_only (said.ClientTick player) e no_client_tick no_down no_down_new no_client_call no_dump no_client_forge =
+    no_client_tick player refl
+client_only (said.Down player packet) e no_client_tick no_down no_down_new no_client_call no_dump no_client_forge =
+    no_down player packet refl
 client_only (said.Up player packet) e no_client_tick no_down no_down_new no_client_call no_dump no_client_forge = cc
-client_only (said.DownNew player every) e no_client_tick no_down no_down_new no_client_call no_dump no_client_forge = no_down_new player every refl
+client_only (said.DownNew player every) e no_client_tick no_down no_down_new no_client_call no_dump no_client_forge =
+    no_down_new player every refl
 client_only (said.UpNew player every) e no_client_tick no_down no_down_new no_client_call no_dump no_client_forge = cc
-client_only (said.Call player actor call args) e no_client_tick no_down no_down_new no_client_call no_dump no_client_forge = cc
-client_only (said.Multi actor call args) e no_client_tick no_down no_down_new no_client_call no_dump no_client_forge = cc
-client_only (said.ClientCall player actor call args) e no_client_tick no_down no_down_new no_client_call no_dump no_client_forge = no_client_call player actor call args refl
-client_only (said.Dump player) e no_client_tick no_down no_down_new no_client_call no_dump no_client_forge = no_dump player refl
+client_only (said.Call player actor call args) e no_client_tick no_down no_down_new no_client_call no_dump
+    no_client_forge = cc
+client_only (said.Multi actor call args) e no_client_tick no_down no_down_new no_client_call no_dump no_client_forge =
+    cc
+client_only (said.ClientCall player actor call args) e no_client_tick no_down no_down_new no_client_call no_dump
+    no_client_forge = no_client_call player actor call args refl
+client_only (said.Dump player) e no_client_tick no_down no_down_new no_client_call no_dump no_client_forge =
+    no_dump player refl
 client_only (said.Settled player actor) e no_client_tick no_down no_down_new no_client_call no_dump no_client_forge = cc
 client_only (said.Forge player bytes) e no_client_tick no_down no_down_new no_client_call no_dump no_client_forge = cc
-client_only (said.ClientForge player bytes) e no_client_tick no_down no_down_new no_client_call no_dump no_client_forge = no_client_forge player bytes refl
+client_only (said.ClientForge player bytes) e no_client_tick no_down no_down_new no_client_call no_dump
+    no_client_forge = no_client_forge player bytes refl
 
 -- any other does nothing, unless the server does it
-pub rest_is_still : (table : Table) (line : Line) (edits : Edits) (p : Player) → is_client_side (line_side (line_of line)) ≡ false
+pub rest_is_still : (table : Table) (line : Line) (edits : Edits) (p : Player)
+    → is_client_side (line_side (line_of line)) ≡ false
     → ((player packet : ℕ) → line ≡ said.Up player packet → ⊥)
     → ((player every : ℕ) → line ≡ said.UpNew player every → ⊥)
     → ((player actor call : ℕ) (args : List Arg) → line ≡ said.Call player actor call args → ⊥)
@@ -50,15 +60,21 @@ rest_is_still table (said.Edit edit) edits p e no_up no_up_new no_call no_settle
 rest_is_still table said.Tick edits p e no_up no_up_new no_call no_settled no_forge = refl
 rest_is_still table (said.ClientTick player) edits p e no_up no_up_new no_call no_settled no_forge = absurd (cc)
 rest_is_still table (said.Down player packet) edits p e no_up no_up_new no_call no_settled no_forge = absurd (cc)
-rest_is_still table (said.Up player packet) edits p e no_up no_up_new no_call no_settled no_forge = absurd (no_up player packet refl)
+rest_is_still table (said.Up player packet) edits p e no_up no_up_new no_call no_settled no_forge =
+    absurd (no_up player packet refl)
 rest_is_still table (said.DownNew player every) edits p e no_up no_up_new no_call no_settled no_forge = absurd (cc)
-rest_is_still table (said.UpNew player every) edits p e no_up no_up_new no_call no_settled no_forge = absurd (no_up_new player every refl)
-rest_is_still table (said.Call player actor call args) edits p e no_up no_up_new no_call no_settled no_forge = absurd (no_call player actor call args refl)
+rest_is_still table (said.UpNew player every) edits p e no_up no_up_new no_call no_settled no_forge =
+    absurd (no_up_new player every refl)
+rest_is_still table (said.Call player actor call args) edits p e no_up no_up_new no_call no_settled no_forge =
+    absurd (no_call player actor call args refl)
 rest_is_still table (said.Multi actor call args) edits p e no_up no_up_new no_call no_settled no_forge = refl
-rest_is_still table (said.ClientCall player actor call args) edits p e no_up no_up_new no_call no_settled no_forge = absurd (cc)
+rest_is_still table (said.ClientCall player actor call args) edits p e no_up no_up_new no_call no_settled no_forge =
+    absurd (cc)
 rest_is_still table (said.Dump player) edits p e no_up no_up_new no_call no_settled no_forge = absurd (cc)
-rest_is_still table (said.Settled player actor) edits p e no_up no_up_new no_call no_settled no_forge = absurd (no_settled player actor refl)
-rest_is_still table (said.Forge player bytes) edits p e no_up no_up_new no_call no_settled no_forge = absurd (no_forge player bytes refl)
+rest_is_still table (said.Settled player actor) edits p e no_up no_up_new no_call no_settled no_forge =
+    absurd (no_settled player actor refl)
+rest_is_still table (said.Forge player bytes) edits p e no_up no_up_new no_call no_settled no_forge =
+    absurd (no_forge player bytes refl)
 rest_is_still table (said.ClientForge player bytes) edits p e no_up no_up_new no_call no_settled no_forge = absurd (cc)
 
 -- a line that is nobody's is a tick, if it is none of these

@@ -19,7 +19,12 @@ pub placed : (layout : Layout) (places : List Place) (players : List Player) (i 
     → (p : Player) × (slice_get players i ≡ Some p) × IsPlace layout k p
 placed layout [] players i k h e = absurd (none-some k e)
 placed layout (x ∷ places) [] i k h e = absurd h
-placed layout (x ∷ places) (p ∷ players) zero k h e = (p, refl, subst (λ (k : Place). IsPlace layout k p) (same_Some x k e) h.0)
+placed layout (x ∷ places) (p ∷ players) zero k h e = (
+  p,
+  refl,
+  subst (λ (k : Place). IsPlace layout k p)
+      (same_Some x k e) h.0,
+)
 placed layout (x ∷ places) (p ∷ players) (suc i) k h e = placed layout places players i k h.1 e
 
 -- and the place of a player
@@ -28,12 +33,18 @@ pub seated : (layout : Layout) (places : List Place) (players : List Player) (i 
     → (k : Place) × (slice_get places i ≡ Some k) × IsPlace layout k p
 seated layout places [] i p h e = absurd (none-some p e)
 seated layout [] (q ∷ players) i p h e = absurd h
-seated layout (x ∷ places) (q ∷ players) zero p h e = (x, refl, subst (λ (q : Player). IsPlace layout x q) (same_Some q p e) h.0)
+seated layout (x ∷ places) (q ∷ players) zero p h e = (
+  x,
+  refl,
+  subst (λ (q : Player). IsPlace layout x q)
+      (same_Some q p e) h.0,
+)
 seated layout (x ∷ places) (q ∷ players) (suc i) p h e = seated layout places players i p h.1 e
 
 -- one place and its player go on
 pub places_set : (layout : Layout) (places : List Place) (players : List Player) (i : ℕ) (k : Place) (p : Player)
-    → ArePlaces layout places players → IsPlace layout k p → ArePlaces layout (slice_set places i k) (slice_set players i p)
+    → ArePlaces layout places players → IsPlace layout k p → ArePlaces layout (slice_set places i k)
+    (slice_set players i p)
 places_set layout [] [] i k p h new = tt
 places_set layout [] (q ∷ players) i k p h new = absurd h
 places_set layout (x ∷ places) [] i k p h new = absurd h
@@ -55,7 +66,8 @@ pub equal : (m n : ℕ) → (m == n) ≡ true → m ≡ n
 equal m n h = grind (arith, nat_tests)
 
 -- each player of an ascending list is above the first number
-pub number_above : (low : ℕ) (players : List Player) (i : ℕ) (p : Player) → Ascend low players → slice_get players i ≡ Some p → low < p.number
+pub number_above : (low : ℕ) (players : List Player) (i : ℕ) (p : Player) → Ascend low players
+    → slice_get players i ≡ Some p → low < p.number
 number_above low [] i p s e = absurd (none-some p e)
 number_above low (q ∷ players) zero p s e = subst (λ (q : Player). low < q.number) (same_Some q p e) s.0
 number_above low (q ∷ players) (suc i) p s e =
@@ -67,7 +79,8 @@ ascend_lower low high [] h a = tt
 ascend_lower low high (p ∷ players) h a = let first = a.0 in (omega arith, a.1)
 
 -- the numbers stay
-pub ascend_set : (low : ℕ) (players : List Player) (i : ℕ) (p q : Player) → Ascend low players → slice_get players i ≡ Some p → q.number ≡ p.number
+pub ascend_set : (low : ℕ) (players : List Player) (i : ℕ) (p q : Player) → Ascend low players
+    → slice_get players i ≡ Some p → q.number ≡ p.number
     → Ascend low (slice_set players i q)
 ascend_set low [] i p q s e number = absurd (none-some p e)
 ascend_set low (x ∷ players) zero p q s e number =
@@ -85,7 +98,8 @@ abbrev pub says : {A : Type 0} → (Player → List A) → (player : ℕ) → Pl
 says does n p = if p.number == n then does p else []
 
 -- players above a number aren't that one
-others_stay : (does : Player → Player) (n low : ℕ) (players : List Player) → Ascend low players → n ≤ low → map (only does n) players ≡ players
+others_stay : (does : Player → Player) (n low : ℕ) (players : List Player) → Ascend low players → n ≤ low
+    → map (only does n) players ≡ players
 others_stay does n low [] a h = refl
 others_stay does n low (p ∷ players) a h =
     let first = a.0 in
@@ -93,7 +107,8 @@ others_stay does n low (p ∷ players) a h =
     let rest = others_stay does n p.number players a.1 (omega arith) in
     rw (e, rest) refl
 
-others_silent : {A : Type 0} (does : Player → List A) (n low : ℕ) (players : List Player) → Ascend low players → n ≤ low → flat_map (says does n) players ≡ []
+others_silent : {A : Type 0} (does : Player → List A) (n low : ℕ) (players : List Player) → Ascend low players → n ≤ low
+    → flat_map (says does n) players ≡ []
 others_silent does n low [] a h = refl
 others_silent does n low (p ∷ players) a h =
     let first = a.0 in
@@ -156,7 +171,8 @@ seats_set change n low (x ∷ players) zero p q s e number h =
     let is : x.number ≡ n = ap (λ (x : Player). x.number) same ∙ number in
     let yes = agrees x.number n is in
     let stay = other_seats change n x.number players s.1 (omega arith) in
-    rw (yes, stay) (ap (λ (seat : Seat). seat ∷ map seat_in players) (ap (λ (x : Player). change (seat_in x)) same ∙ sym h))
+    rw (yes, stay) (ap (λ (seat : Seat). seat ∷ map seat_in players)
+    (ap (λ (x : Player). change (seat_in x)) same ∙ sym h))
 seats_set change n low (x ∷ players) (suc i) p q s e number h =
     let later = number_above x.number players i p s.1 e in
     let no = differs x.number n (omega arith) in
@@ -166,11 +182,13 @@ seats_set change n low (x ∷ players) (suc i) p q s e number h =
 pub seats_stay : (players : List Player) (i : ℕ) (p q : Player) → slice_get players i ≡ Some p → seat_in q ≡ seat_in p
     → map seat_in (slice_set players i q) ≡ map seat_in players
 seats_stay [] i p q e h = refl
-seats_stay (x ∷ players) zero p q e h = ap (λ (seat : Seat). seat ∷ map seat_in players) (h ∙ ap seat_in (sym (same_Some x p e)))
+seats_stay (x ∷ players) zero p q e h = ap (λ (seat : Seat). seat ∷ map seat_in players)
+    (h ∙ ap seat_in (sym (same_Some x p e)))
 seats_stay (x ∷ players) (suc i) p q e h = ap (λ (l : List Seat). seat_in x ∷ l) (seats_stay players i p q e h)
 
 -- the seat of the player at a place
-pub seat_there : (low n : ℕ) (players : List Player) (i : ℕ) (p : Player) → Ascend low players → slice_get players i ≡ Some p → p.number ≡ n
+pub seat_there : (low n : ℕ) (players : List Player) (i : ℕ) (p : Player) → Ascend low players
+    → slice_get players i ≡ Some p → p.number ≡ n
     → find (λ (seat : Seat). seat.number == n) (map seat_in players) ≡ Some (seat_in p)
 seat_there low n [] i p a e number = absurd (none-some p e)
 seat_there low n (q ∷ players) zero p a e number =
@@ -199,7 +217,8 @@ found_at (q ∷ players) n p e = go (q.number == n) refl (λ h. found_at players
     go false t later e = let r = later e in (suc r.0, r.1, r.2)
 
 -- and is found
-pub at_found : (low : ℕ) (players : List Player) (i : ℕ) (p : Player) (n : ℕ) → Ascend low players → slice_get players i ≡ Some p → p.number ≡ n
+pub at_found : (low : ℕ) (players : List Player) (i : ℕ) (p : Player) (n : ℕ) → Ascend low players
+    → slice_get players i ≡ Some p → p.number ≡ n
     → player_in players n ≡ Some p
 at_found low [] i p n a e number = absurd (none-some p e)
 at_found low (q ∷ players) zero p n a e number =

@@ -55,11 +55,13 @@ inserted (x ∷ places) c =
     step false lt e ih = rw e (ap (λ (cs : List Place). x ∷ cs) ih)
 
 -- a place that was put in
-pub added : (k : Place) (old slice new : List Place) (i : ℕ) → slice ≡ old → i ≡ place_among k.player slice → new ≡ insert old i k
+pub added : (k : Place) (old slice new : List Place) (i : ℕ) → slice ≡ old → i ≡ place_among k.player slice
+    → new ≡ insert old i k
     → new ≡ insert_in_order sits_before k old
 added k old slice new i s at e =
     e ∙ ap (λ (i : ℕ). insert old i k) (at ∙ ap (place_among k.player) s) ∙ inserted old k
 
 -- it is put in within them, or behind
-pub within : (k : Place) (slice : List Place) (i len : ℕ) → i ≡ place_among k.player slice → length slice ≡ len → i ≤ len
+pub within : (k : Place) (slice : List Place) (i len : ℕ) → i ≡ place_among k.player slice → length slice ≡ len
+    → i ≤ len
 within k slice i len e l = let h = place_within k.player slice in omega arith

@@ -43,17 +43,20 @@ at_from t [] i j e = absurd (none-some j e)
 at_from t (x ∷ xs) i j e = go (t x) refl (λ h. at_from t xs (i + 1) j h) e
   where
     go : (b : Bool) → t x ≡ b
-        → (position_from t (i + 1) xs ≡ Some j → (y : Place) × (k : ℕ) × (j ≡ i + 1 + k) × (slice_get xs k ≡ Some y) × (t y ≡ true))
+        → (position_from t (i + 1) xs ≡ Some j → (y : Place) × (k : ℕ) × (j ≡ i + 1 + k) × (slice_get xs k ≡ Some y)
+        × (t y ≡ true))
         → cond b (Some i) (position_from t (i + 1) xs) ≡ Some j
         → (y : Place) × (k : ℕ) × (j ≡ i + k) × (slice_get (x ∷ xs) k ≡ Some y) × (t y ≡ true)
     go true f later e = let h = same_Some i j e in (x, 0, omega arith, refl, f)
     go false f later e = let r = later e in let h = r.2 in (r.0, suc r.1, omega arith, r.3, r.4)
 
-none_from : (t : Place → Bool) (xs : List Place) (i k : ℕ) (x : Place) → position_from t i xs ≡ None → slice_get xs k ≡ Some x → t x ≡ false
+none_from : (t : Place → Bool) (xs : List Place) (i k : ℕ) (x : Place) → position_from t i xs ≡ None
+    → slice_get xs k ≡ Some x → t x ≡ false
 none_from t [] i k x e at = absurd (none-some x at)
 none_from t (y ∷ xs) i k x e at = go (t y) refl k at e (λ m h g. none_from t xs (i + 1) m x h g)
   where
-    go : (b : Bool) → t y ≡ b → (k : ℕ) → slice_get (y ∷ xs) k ≡ Some x → cond b (Some i) (position_from t (i + 1) xs) ≡ None
+    go : (b : Bool) → t y ≡ b → (k : ℕ) → slice_get (y ∷ xs) k ≡ Some x
+        → cond b (Some i) (position_from t (i + 1) xs) ≡ None
         → ((m : ℕ) → position_from t (i + 1) xs ≡ None → slice_get xs m ≡ Some x → t x ≡ false) → t x ≡ false
     go true f k at e later = absurd (none-some i (sym e))
     go false f zero at e later = rw (← same_Some y x at) f
@@ -63,7 +66,8 @@ none_from t (y ∷ xs) i k x e at = go (t y) refl k at e (λ m h g. none_from t 
 pub is_at : (places : List Place) (n i : ℕ) → position (λ (k : Place). k.player == n) places ≡ Some i
     → (k : Place) × (slice_get places i ≡ Some k) × (k.player ≡ n)
 is_at places n i e =
-    let r = at_from (λ (k : Place). k.player == n) places 0 i (sym (position_from-zero (λ (k : Place). k.player == n) places) ∙ e) in
+    let r = at_from (λ (k : Place). k.player == n) places 0 i
+    (sym (position_from-zero (λ (k : Place). k.player == n) places) ∙ e) in
     let at = r.2 in
     let same : r.1 ≡ i = omega arith in
     (r.0, ap (slice_get places) (sym same) ∙ r.3, equal r.0.player n r.4)
@@ -81,12 +85,14 @@ is_none layout n places players a there e = found (player_in players n) refl the
     found (Some p) f h =
         let at = found_at players n p f in
         let place = seated layout places players at.0 p a at.1 in
-        let no = none_from (λ (k : Place). k.player == n) places 0 at.0 place.0 (sym (position_from-zero (λ (k : Place). k.player == n) places) ∙ e) place.1 in
+        let no = none_from (λ (k : Place). k.player == n) places 0 at.0 place.0
+        (sym (position_from-zero (λ (k : Place). k.player == n) places) ∙ e) place.1 in
         let is = yes place.0.player (place.2.number ∙ at.2) in
         cc
 
 -- who is at a place is there
-pub is_there : (layout : Layout) (n i : ℕ) (places : List Place) (k : Place) (players : List Player) → ArePlaces layout places players → Ascend 0 players
+pub is_there : (layout : Layout) (n i : ℕ) (places : List Place) (k : Place) (players : List Player)
+    → ArePlaces layout places players → Ascend 0 players
     → slice_get places i ≡ Some k → k.player ≡ n → (p : Player) × IsAt players i p × IsPlace layout k p × (n ≡ p.number)
 is_there layout n i places k players a s at number =
     let who = placed layout places players i k a at in
@@ -101,13 +107,19 @@ line_after layout story (Join player budget version) n e = absurd (none-some n e
 line_after layout story (ApplyEdit edit) n e = absurd (none-some n e)
 line_after layout story TickAll n e = absurd (none-some n e)
 line_after layout story (CallAll a m args) n e = absurd (none-some n e)
-line_after layout story (TickClient player) n e = ap (λ m. after_line (table_in layout) story (TickClient m)) (same_Some player n e)
-line_after layout story (Deliver side player k) n e = ap (λ m. after_line (table_in layout) story (Deliver side m k)) (same_Some player n e)
-line_after layout story (DeliverNew side player every) n e = ap (λ m. after_line (table_in layout) story (DeliverNew side m every)) (same_Some player n e)
-line_after layout story (CallTo side player a m args) n e = ap (λ k. after_line (table_in layout) story (CallTo side k a m args)) (same_Some player n e)
+line_after layout story (TickClient player) n e = ap (λ m. after_line (table_in layout) story (TickClient m))
+    (same_Some player n e)
+line_after layout story (Deliver side player k) n e = ap (λ m. after_line (table_in layout) story (Deliver side m k))
+    (same_Some player n e)
+line_after layout story (DeliverNew side player every) n e = ap
+    (λ m. after_line (table_in layout) story (DeliverNew side m every)) (same_Some player n e)
+line_after layout story (CallTo side player a m args) n e = ap
+    (λ k. after_line (table_in layout) story (CallTo side k a m args)) (same_Some player n e)
 line_after layout story (Dump player) n e = ap (λ m. after_line (table_in layout) story (Dump m)) (same_Some player n e)
-line_after layout story (AskSettled player a) n e = ap (λ m. after_line (table_in layout) story (AskSettled m a)) (same_Some player n e)
-line_after layout story (Forge side player bytes) n e = ap (λ m. after_line (table_in layout) story (Forge side m bytes)) (same_Some player n e)
+line_after layout story (AskSettled player a) n e = ap (λ m. after_line (table_in layout) story (AskSettled m a))
+    (same_Some player n e)
+line_after layout story (Forge side player bytes) n e = ap (λ m. after_line (table_in layout) story
+    (Forge side m bytes)) (same_Some player n e)
 
 -- the player's line was done at its place: the whole stands for the story with it, and that was told
 pub line_done : (r : Kept) (story : Story) (line : Line) (n i : ℕ) (k l : Place) (d : Drive) (before told : List Event)
@@ -121,17 +133,20 @@ line_done r story line n i k l d before told whose s at number none does =
     let is = who.1 in
     let part = line_does (table_in r.layout) line story.edits in
     let done = does story.edits story.players i p s.serving is who.2 in
-    let after : map (λ (q : Player). if q.number == n then (part q).0 else q) story.players ≡ slice_set story.players i (part p).0 =
+    let after : map (λ (q : Player). if q.number == n then (part q).0 else q) story.players
+    ≡ slice_set story.players i (part p).0 =
     one_goes_on (λ q. (part q).0) n 0 story.players i p is.ascend is.there (sym who.3) in
     let tells : flat_map (λ (q : Player). if q.number == n then (part q).1 else []) story.players ≡ (part p).1 =
     one_tells (λ q. (part q).1) n 0 story.players i p is.ascend is.there (sym who.3) in
     let whole = line_after r.layout story line n whose in
-    let same : (after_line (table_in r.layout) story line).0 ≡ record story { players = slice_set story.players i (part p).0 } =
+    let same : (after_line (table_in r.layout) story line).0 ≡ record story
+    { players = slice_set story.players i (part p).0 } =
     ap (λ (w : Story × List Report). w.0) whole ∙ ap (λ (ps : List Player). record story { players = ps }) after in (
       subst (λ (st : Story). Stands (record r { driver = d; places = slice_set r.places i l }) st) (sym same) (record {
         serving = done.served.serving;
         places = places_set r.layout r.places story.players i l (part p).0 s.places done.stands;
-        ascend = ascend_set 0 story.players i p (part p).0 s.ascend is.there (line_number (table_in r.layout) line story.edits p);
+        ascend = ascend_set 0 story.players i p (part p).0 s.ascend is.there
+            (line_number (table_in r.layout) line story.edits p);
         kept = s.kept;
       }),
       done.served.adds ∙ ap (λ (es : List Event). map (report_of (table_in r.layout)) es ++ (part p).1) none
@@ -162,7 +177,8 @@ at_client layout d k l before told line client does edits players i p h at stand
     is_client AtClient e = refl
 
 -- of the server
-pub at_server : (layout : Layout) (old new : Drive) (k : Place) (n : ℕ) (before told : List Event) (does : Edits → Player → Reported)
+pub at_server : (layout : Layout) (old new : Drive) (k : Place) (n : ℕ) (before told : List Event)
+    (does : Edits → Player → Reported)
     → ((edits : Edits) (p : Player) → IsPlace layout k p → IsPlace layout k (does edits p).0) → n ≡ k.player
     → ServesOne layout does n old new before told → DoesAt layout does old new k k before told
 at_server layout old new k n before told does stays whose serves edits players i p h at stands = record {
@@ -189,7 +205,8 @@ edit_told edits (EditValue.Give actor team) = refl
 
 -- the whole stands for the story with it
 pub edited : (r : Kept) (story : Story) (e : EditValue) (d : Drive) → Stands r story
-    → ((s : Served) → Serves r.driver s → Serves d (record s { edits = edit_of e ∷ s.edits })) → d.layout ≡ r.driver.layout
+    → ((s : Served) → Serves r.driver s → Serves d (record s { edits = edit_of e ∷ s.edits }))
+    → d.layout ≡ r.driver.layout
     → Stands (record r { driver = d }) (record story { edits = edit_of e ∷ story.edits })
 edited r story e d s serves classes = let old = s.serving.served in record {
   serving = record {
@@ -205,14 +222,16 @@ edited r story e d s serves classes = let old = s.serving.served in record {
 }
 
 -- the actor that it spawned was told
-pub actor_told : (layout : Layout) (d : Drive) (edits : Edits) (players : List Player) (e : EditValue) (spawned : Option ℕ)
+pub actor_told : (layout : Layout) (d : Drive) (edits : Edits) (players : List Player) (e : EditValue)
+    (spawned : Option ℕ)
     → Serving layout d edits players → ((s : Served) → Serves d s → spawned ≡ spawned_guid s.edits e)
     → actor_reports spawned ≡ edit_reports edits (edit_of e)
 actor_told layout d edits players e spawned h guid =
     ap actor_reports (guid h.served h.serves ∙ ap (λ (es : Edits). spawned_guid es e) h.same_edits) ∙ edit_told edits e
 
 -- who is there in one story that the replay stands for is there in each
-pub there_too : (r : Kept) (one other : Story) (n : ℕ) → Stands r one → Stands r other → IsThere one.players n → IsThere other.players n
+pub there_too : (r : Kept) (one other : Story) (n : ℕ) → Stands r one → Stands r other → IsThere one.players n
+    → IsThere other.players n
 there_too r one other n s t there = found (player_in one.players n) refl there
   where
     found : (o : Option Player) → player_in one.players n ≡ o → is_some o ≡ true → IsThere other.players n
@@ -228,7 +247,8 @@ there : (m n : ℕ) → Some m ≡ Some n → (story : Story) → IsThere story.
 there m n e story h = subst (IsThere story.players) (same_Some m n e) h
 
 -- what a line of a player may ask
-pub may_of : (layout : Layout) (story : Story) (line : LineValue) (n : ℕ) → line_player (line_of line) ≡ Some n → May layout story line
+pub may_of : (layout : Layout) (story : Story) (line : LineValue) (n : ℕ) → line_player (line_of line) ≡ Some n
+    → May layout story line
     → IsThere story.players n × MayDo layout story.edits line
 may_of layout story (said.Join player budget version) n e h = absurd (none-some n e)
 may_of layout story (said.Edit edit) n e h = absurd (none-some n e)
@@ -254,7 +274,8 @@ nothing_done layout d k events does still edits players i p h is stands =
     (sym (append-nil (map (report_of (table_in layout)) events))) (still edits p)
 
 -- who isn't there in one story that the replay stands for isn't in any
-pub new_too : (r : Kept) (one other : Story) (n : ℕ) → Stands r one → Stands r other → is_some (player_in one.players n) ≡ false
+pub new_too : (r : Kept) (one other : Story) (n : ℕ) → Stands r one → Stands r other
+    → is_some (player_in one.players n) ≡ false
     → is_some (player_in other.players n) ≡ false
 new_too r one other n s t new = by (is_some (player_in other.players n)) refl
   where
@@ -263,7 +284,8 @@ new_too r one other n s t new = by (is_some (player_in other.players n)) refl
     by true e = let here = there_too r other one n t s e in absurd (cc)
 
 -- the copies of a player's client
-pub copies_there : (layout : Layout) (players : List Player) (places : List Place) (n i : ℕ) (k : Place) (copies : List ActorCopy) → ArePlaces layout places players
+pub copies_there : (layout : Layout) (players : List Player) (places : List Place) (n i : ℕ) (k : Place)
+    (copies : List ActorCopy) → ArePlaces layout places players
     → Ascend 0 players → slice_get places i ≡ Some k → k.player ≡ n
     → ((past : Past) → Plays k.client past → map (copy_value_of k.client.layout) copies ≡ copies_of past)
     → option_map (map (copy_value_of layout)) (Some copies)
@@ -273,15 +295,18 @@ copies_there layout players places n i k copies a s at number are =
     let p = who.0 in
     let found = at_found 0 players i p n s who.1.there (sym who.3) in
     ap (λ (cs : List Copy). Some cs)
-    (ap (λ (l : Layout). map (copy_value_of l) copies) (sym who.2.classes) ∙ are (past_at (table_in layout) AtClient p) who.2.plays)
+    (ap (λ (l : Layout). map (copy_value_of l) copies) (sym who.2.classes)
+    ∙ are (past_at (table_in layout) AtClient p) who.2.plays)
     ∙ ap (option_map (λ (p : Player). copies_of (past_at (table_in layout) AtClient p))) (sym found)
 
 -- nobody's
-pub copies_nowhere : (layout : Layout) (players : List Player) (places : List Place) (n : ℕ) → ArePlaces layout places players
+pub copies_nowhere : (layout : Layout) (players : List Player) (places : List Place) (n : ℕ)
+    → ArePlaces layout places players
     → position (λ (k : Place). k.player == n) places ≡ None
     → None ≡ option_map (λ (p : Player). copies_of (past_at (table_in layout) AtClient p)) (player_in players n)
 copies_nowhere layout players places n a none = by (player_in players n) refl
   where
-    by : (o : Option Player) → player_in players n ≡ o → None ≡ option_map (λ (p : Player). copies_of (past_at (table_in layout) AtClient p)) o
+    by : (o : Option Player) → player_in players n ≡ o → None
+        ≡ option_map (λ (p : Player). copies_of (past_at (table_in layout) AtClient p)) o
     by None e = refl
     by (Some p) e = absurd (is_none layout n places players a (ap is_some e) none)

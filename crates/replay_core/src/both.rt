@@ -14,7 +14,7 @@ use crate::server::{call, deliver, deliver_new, forge, settled};
 use crate::telling::is_of_client;
 use net_core::Memory;
 use net_driver::Driver;
-use replay_places::Place;
+use replay_places::{Place, tell_copies};
 use script_lines::{EventList, Line};
 use std::alloc::Global;
 
@@ -64,7 +64,7 @@ fn at_client(
             args,
             ..
         } => place.call(*actor, *call, args.as_slice(), events),
-        Line::Dump { .. } => place.tell_copies(alloc, events),
+        Line::Dump { .. } => tell_copies(alloc, &place.client, place.player, events),
         Line::ClientForge { bytes, .. } => place.forge(bytes.as_slice(), events),
         _ => Ok(()),
     }

@@ -19,14 +19,16 @@
 // on `script_lines` for lines and events. It promises that each line that may follow those before it
 // does and tells exactly what the story of the lines says (`Stands`, `after_line`), whoever else
 // plays; after want of memory each line is answered so. A line's work doesn't grow with the lines
-// behind it. It reads no script and prints nothing.
+// behind it. It tells how many pairs of a player and an actor are settled. It reads no script and
+// prints nothing.
 #![tactic(auto)]
 
 mod both;
 mod joining;
 pub mod laws;
 mod replay;
-mod server;
+pub mod server;
+mod settling;
 mod telling;
 
 pub use class_layout::Classes;

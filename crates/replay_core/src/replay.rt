@@ -18,10 +18,12 @@ ghost use Rattle.replay_core.specs.Stands.{Stands, IsSpent, IsThere, player_in};
 ghost use Rattle.replay_core.specs.Lines.{line_player};
 ghost use Rattle.following_laws.specs.Following.{MayJoin};
 ghost use Rattle.replay_core.specs.May.{May, MayDo};
+ghost use Rattle.replay_core.specs.Settled.{settled_count};
 
 use crate::both::do_line;
 use crate::joining::add_place;
 use crate::server::{call_each, keep_all, tick};
+use crate::settling::{settled_pairs, spawned};
 use crate::telling::{player_of, tell_actor};
 use actor_copies::CopyList;
 use class_layout::{Arg, Classes};
@@ -113,6 +115,18 @@ impl<'a> Replay<'a> {
     {
         let i = self.seat(player)?;
         Some(self.places[i].client.copies())
+    }
+
+    /// How many pairs of a player and an actor are settled: nothing of the actor is left to send to
+    /// the player, and all that was sent has arrived. `Memory` changes nothing.
+    pub fn settled_count(&self) -> Result<u32, Memory>
+        requires { (story : Story) × Stands self.now story }
+        ensures { IfOk result (λ count. (story : Story) → Stands self.now story
+            → count ≡ settled_count (table_in self.now.layout) story) }
+    {
+        let spawned = spawned::<Brand>(&self.driver, Blank::new(1))?;
+        let count = settled_pairs(&self.driver, self.places.as_slice(), spawned)?;
+        Ok(count)
     }
 
     /// Does a line, and answers what it tells. After `Memory` it may be done in part.

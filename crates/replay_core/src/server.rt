@@ -132,7 +132,7 @@ pub(crate) fn forge(
 
 /// A player's end hears a datagram: the calls that it hands over are told, and what it says is
 /// answered.
-fn hear(
+pub fn hear(
     driver: &mut Driver<'_>,
     player: Player,
     bytes: &[u8],
@@ -163,7 +163,7 @@ fn tell_handed(player: Player, calls: HandedList, events: &mut EventList) -> Res
 // ---- what it is asked
 
 /// The server makes a call to a player.
-pub(crate) fn call(
+pub fn call(
     driver: &mut Driver<'_>,
     player: Player,
     actor: Guid,
@@ -208,7 +208,7 @@ pub(crate) fn call_each(
 }
 
 /// Whether nothing of an actor is left to be sent to a player is told.
-pub(crate) fn settled(
+pub fn settled(
     driver: &Driver<'_>,
     player: Player,
     actor: Guid,
@@ -232,7 +232,7 @@ pub(crate) fn settled(
 // ---- ticks
 
 /// The server ticks.
-pub(crate) fn tick<L: Ledger>(driver: &mut Driver<'_>, blank: Blank) -> Result<TickList, Memory>
+pub fn tick<L: Ledger>(driver: &mut Driver<'_>, blank: Blank) -> Result<TickList, Memory>
     requires name { blank.name ≡ L.name }
     requires parts { blank.parts ≡ L.parts }
     requires some { 0 < L.parts }

@@ -16,12 +16,11 @@ use Rattle.value_codec.specs.declared.pair.Pair.{Pair as PairValue}
 use Rattle.actor_copies.specs.declared.copy.ActorCopy.{ActorCopy}
 use Rattle.actor_copies.specs.Copies.{Copy, copy_of, copies_of, copy_value_of, values_of}
 use Rattle.payload_reading.specs.Values.{pair_value}
-use Rattle.client_world.specs.Played.{Plays}
+use Rattle.client_world.specs.Played.{Play, Plays}
 use Rattle.script_lines.specs.declared.event.Event.{Event}
 use Rattle.script_lines.specs.declared.event.Event.TheVariants as event
 use Rattle.script_lines.specs.ReportOf.{report_of, handle_name, named_value}
-use Rattle.replay_places.specs.declared.place.Place.{Place}
-use Rattle.replay_places.specs.Places.{IsPlace}
+use Rattle.replay_places.specs.Places.{IsClient}
 use Rattle.replay_places.specs.Doing.{Adds, named_pair, copied_report}
 use Rattle.replay_places.proofs.Ticked.{adds_both}
 
@@ -35,16 +34,19 @@ behind (x ∷ xs) p ys = behind xs p ys
 -- each handle from a place on has its property's name
 names_from : (class : Class) (value : ℕ → ℤ) (h n : ℕ) (before props : List Prop) → before ++ props ≡ props_of class
     → n ≡ length before → h ≡ suc n
-    → map (named_pair class) (map (λ (entry : ℕ × Prop). record { handle = entry.0; value = value entry.0 }) (numbered_from h props))
+    → map (named_pair class) (map (λ (entry : ℕ × Prop). record { handle = entry.0; value = value entry.0 })
+    (numbered_from h props))
     ≡ map (λ (entry : ℕ × Prop). (entry.1.name, value entry.0)) (numbered_from h props)
 names_from class value h n before [] e k s = refl
 names_from class value h n before (p ∷ props) e k s =
     let at : slice_get (props_of class) n ≡ Some p =
-    ap (λ (l : List Prop). slice_get l n) (sym e) ∙ ap (λ m. slice_get (before ++ p ∷ props) m) k ∙ behind before p props in
+    ap (λ (l : List Prop). slice_get l n) (sym e) ∙ ap (λ m. slice_get (before ++ p ∷ props) m) k
+    ∙ behind before p props in
     let here : handle_name class h ≡ p.name =
     ap (handle_name class) s ∙ ap (λ (o : Option Prop). unwrap_or (option_map (λ (q : Prop). q.name) o) []) at in
     let next : h + 1 ≡ suc (suc n) = omega arith in
-    let rest = names_from class value (h + 1) (suc n) (before ++ p ∷ []) props (shift before p props ∙ e) (longer before p n k) next in
+    let rest = names_from class value (h + 1) (suc n) (before ++ p ∷ []) props (shift before p props ∙ e)
+    (longer before p n k) next in
     one _ _ _ _ here rest
   where
     shift : (xs : List Prop) (p : Prop) (ys : List Prop) → (xs ++ p ∷ []) ++ ys ≡ xs ++ p ∷ ys
@@ -62,7 +64,8 @@ names_from class value h n before (p ∷ props) e k s =
     one a b xs ys f g = rw (f, g) refl
 
 -- the values of a copy by their names
-values_named : (past : Past) (a : ℕ) (class : Class) → map (named_pair class) (values_of past a class) ≡ copy_values past a class
+values_named : (past : Past) (a : ℕ) (class : Class) → map (named_pair class) (values_of past a class)
+    ≡ copy_values past a class
 values_named past a class = names_from class (copy_value past a) 1 0 [] (props_of class) refl refl refl
 
 -- ---- copies
@@ -82,11 +85,13 @@ one_copy : (player : ℕ) (past : Past) (a : ℕ)
 one_copy player past a = same (copy_class past a)
   where
     same : (o : Option Class)
-        → option_map (λ (class : Class). CopyReport player a class.name (copy_channel past a) (copy_values past a class)) o
+        → option_map (λ (class : Class). CopyReport player a class.name (copy_channel past a)
+        (copy_values past a class)) o
         ≡ option_map (copied_report player) (option_map (copy_made past a) o)
     same None = refl
     same (Some class) =
-        ap (λ (vs : List (List ℕ × ℤ)). Some (CopyReport player a class.name (copy_channel past a) vs)) (sym (values_named past a class))
+        ap (λ (vs : List (List ℕ × ℤ)). Some (CopyReport player a class.name (copy_channel past a) vs))
+        (sym (values_named past a class))
 
 all_copies : (player : ℕ) (past : Past) (actors : List ℕ)
     → map (copied_report player) (filter_map (copy_of past) actors) ≡ filter_map (copy_report player past) actors
@@ -94,7 +99,8 @@ all_copies player past [] = refl
 all_copies player past (a ∷ actors) =
     more (copy_of past a) (copy_report player past a) _ _ (one_copy player past a) (all_copies player past actors)
   where
-    more : (c : Option Copy) (r : Option Report) (cs : List Copy) (rs : List Report) → r ≡ option_map (copied_report player) c
+    more : (c : Option Copy) (r : Option Report) (cs : List Copy) (rs : List Report)
+        → r ≡ option_map (copied_report player) c
         → map (copied_report player) cs ≡ rs → map (copied_report player) (cons_option c cs) ≡ cons_option r rs
     more None r cs rs e es = rw e es
     more (Some c) r cs rs e es = rw e (ap (λ (l : List Report). copied_report player c ∷ l) es)
@@ -103,29 +109,36 @@ all_copies player past (a ∷ actors) =
 pub copies_told : (layout : Layout) (p : Player) (player count : ℕ) (copies : List ActorCopy) → player ≡ p.number
     → map (copy_value_of layout) copies ≡ copies_of (past_at (table_in layout) AtClient p)
     → count ≡ length (copied_actors (past_at (table_in layout) AtClient p))
-    → Copies player count ∷ map (copied_report player) (map (copy_value_of layout) copies) ≡ copies_reports (table_in layout) p
+    → Copies player count ∷ map (copied_report player) (map (copy_value_of layout) copies)
+    ≡ copies_reports (table_in layout) p
 copies_told layout p player count copies who are counted =
     let past = past_at (table_in layout) AtClient p in
-    both player p.number count (length (copied_actors past)) (map (copy_value_of layout) copies) (copies_of past) who counted are
-    ∙ ap (λ (rs : List Report). Copies p.number (length (copied_actors past)) ∷ rs) (all_copies p.number past (copied_actors past))
+    both player p.number count (length (copied_actors past)) (map (copy_value_of layout) copies) (copies_of past) who
+    counted are
+    ∙ ap (λ (rs : List Report). Copies p.number (length (copied_actors past)) ∷ rs)
+    (all_copies p.number past (copied_actors past))
   where
     both : (m n x y : ℕ) (cs ds : List Copy) → m ≡ n → x ≡ y → cs ≡ ds
         → Copies m x ∷ map (copied_report m) cs ≡ Copies n y ∷ map (copied_report n) ds
     both m n x y cs ds e f g = rw (e, f, g) refl
 
 -- the program's values by their names
-pub values_told : (class : Class) (pairs : List PairValue) → map (named_value class) pairs ≡ map (named_pair class) (map pair_value pairs)
+pub values_told : (class : Class) (pairs : List PairValue) → map (named_value class) pairs
+    ≡ map (named_pair class) (map pair_value pairs)
 values_told class pairs = sym (map-map (named_pair class) pair_value pairs)
 
 -- one copy is told
-pub copy_told : (layout : Layout) (player : ℕ) (c : ActorCopy) (values : List PairValue) (before after : List Event) → values ≡ c.values
+pub copy_told : (layout : Layout) (player : ℕ) (c : ActorCopy) (values : List PairValue) (before after : List Event)
+    → values ≡ c.values
     → after ≡ before ++ event.Copied player c.actor c.class c.channel values ∷ []
     → Adds (table_in layout) before after (copied_report player (copy_value_of layout c) ∷ [])
 copy_told layout player c values before after same pushed =
     let class = class_at (table_in layout) c.class in
-    subst (λ (l : List Event). Adds (table_in layout) before l (copied_report player (copy_value_of layout c) ∷ [])) (sym pushed)
+    subst (λ (l : List Event). Adds (table_in layout) before l (copied_report player (copy_value_of layout c) ∷ []))
+    (sym pushed)
     (map-append (report_of (table_in layout)) before (event.Copied player c.actor c.class c.channel values ∷ [])
-    ∙ ap (λ (vs : List (List ℕ × ℤ)). map (report_of (table_in layout)) before ++ CopyReport player c.actor class.name c.channel vs ∷ [])
+    ∙ ap (λ (vs : List (List ℕ × ℤ)). map (report_of (table_in layout)) before
+    ++ CopyReport player c.actor class.name c.channel vs ∷ [])
     (ap (map (named_value class)) same ∙ values_told class c.values))
 
 -- copies told one after another
@@ -141,17 +154,21 @@ copy_more layout player cs c before mid after one two =
     (copied_report player (copy_value_of layout c) ∷ []) one two)
 
 -- all that is told of a client's copies
-pub all_told : (layout : Layout) (k : Place) (p : Player) (count : ℕ) (copies : List ActorCopy) (before first after : List Event) → IsPlace layout k p
-    → ((past : Past) → Plays k.client past → map (copy_value_of k.client.layout) copies ≡ copies_of past)
-    → ((past : Past) → Plays k.client past → length copies ≡ length (copied_actors past)) → count ≡ length copies
-    → first ≡ before ++ event.Copies k.player count ∷ []
-    → Adds (table_in layout) first after (map (copied_report k.player) (map (copy_value_of layout) copies))
+pub all_told : (layout : Layout) (k : Play) (player : ℕ) (p : Player) (count : ℕ)
+    (copies : List ActorCopy) (before first after : List Event) → IsClient layout k player p
+    → ((past : Past) → Plays k past → map (copy_value_of k.layout) copies ≡ copies_of past)
+    → ((past : Past) → Plays k past → length copies ≡ length (copied_actors past)) → count ≡ length copies
+    → first ≡ before ++ event.Copies player count ∷ []
+    → Adds (table_in layout) first after (map (copied_report player) (map (copy_value_of layout) copies))
     → Adds (table_in layout) before after (copies_reports (table_in layout) p)
-all_told layout k p count copies before first after i are counted is pushed told =
+all_told layout k player p count copies before first after i are counted is pushed told =
     let past = past_at (table_in layout) AtClient p in
-    let reports = copies_told layout p k.player count copies i.number
-    (subst (λ (l : Layout). map (copy_value_of l) copies ≡ copies_of past) i.classes (are past i.plays)) (is ∙ counted past i.plays) in
-    let begun : Adds (table_in layout) before first (Copies k.player count ∷ []) =
-    ap (map (report_of (table_in layout))) pushed ∙ map-append (report_of (table_in layout)) before (event.Copies k.player count ∷ []) in
+    let reports = copies_told layout p player count copies i.number
+    (subst (λ (l : Layout). map (copy_value_of l) copies ≡ copies_of past) i.classes (are past i.plays))
+    (is ∙ counted past i.plays) in
+    let begun : Adds (table_in layout) before first (Copies player count ∷ []) =
+    ap (map (report_of (table_in layout))) pushed ∙ map-append (report_of (table_in layout)) before
+    (event.Copies player count ∷ []) in
     subst (Adds (table_in layout) before after) reports
-    (adds_both (table_in layout) before first after (Copies k.player count ∷ []) (map (copied_report k.player) (map (copy_value_of layout) copies)) begun told)
+    (adds_both (table_in layout) before first after (Copies player count ∷ [])
+    (map (copied_report player) (map (copy_value_of layout) copies)) begun told)

@@ -40,7 +40,8 @@ same_end layout k p i = rw (i.classes, i.version) refl
 pub record Heard (table : Table) (c : Play) (player : ℕ) (bytes : List ℕ) (verdict : Verdict) (after : Play)
     (before told : List Event) : Type 0 where
   pub says : (past : Past) → Plays c past → verdict ≡ verdict_of (client.end_of c) past bytes
-  pub tells : (past : Past) → Plays c past → Adds table before told (handover_reports AtClient player (handovers_in (client.end_of c) past bytes))
+  pub tells : (past : Past) → Plays c past → Adds table before told
+      (handover_reports AtClient player (handovers_in (client.end_of c) past bytes))
   pub plays : (past : Past) → Plays c past → Plays after (after_got (client.end_of c) past bytes)
   pub layout : after.layout ≡ c.layout
   pub version : after.version ≡ c.version
@@ -54,7 +55,8 @@ took layout k p bytes after i plays classes version = record {
   number = i.number;
   classes = classes ∙ i.classes;
   version = version ∙ i.version;
-  plays = subst (λ (e : End). Plays after (after_got e (past_at (table_in layout) AtClient p) bytes)) (same_end layout k p i) plays;
+  plays = subst (λ (e : End). Plays after (after_got e (past_at (table_in layout) AtClient p) bytes))
+      (same_end layout k p i) plays;
   down = i.down;
   up = i.up ∙ sym (got_sends (end_of (table_in layout) AtClient p) (past_at (table_in layout) AtClient p) bytes);
   told_down = i.told_down;
@@ -62,9 +64,11 @@ took layout k p bytes after i plays classes version = record {
 }
 
 -- what is told of it, with its verdict
-datagram_told : (layout : Layout) (k : Place) (p : Player) (edits : Edits) (bytes : List ℕ) (report : Verdict → Report) (verdict : Verdict)
+datagram_told : (layout : Layout) (k : Place) (p : Player) (edits : Edits) (bytes : List ℕ) (report : Verdict → Report)
+    (verdict : Verdict)
     → IsPlace layout k p → verdict ≡ verdict_of (client.end_of k.client) (past_at (table_in layout) AtClient p) bytes
-    → handover_reports AtClient k.player (handovers_in (client.end_of k.client) (past_at (table_in layout) AtClient p) bytes) ++ report verdict ∷ []
+    → handover_reports AtClient k.player (handovers_in (client.end_of k.client) (past_at (table_in layout) AtClient p)
+    bytes) ++ report verdict ∷ []
     ≡ (after_datagram (table_in layout) edits AtClient report bytes p).1
 datagram_told layout k p edits bytes report verdict i says =
     let past = past_at (table_in layout) AtClient p in
@@ -80,19 +84,23 @@ datagram_told layout k p edits bytes report verdict i says =
     parts xs ys v w e f = rw (e, f) refl
 
 -- all of it: heard, and its verdict told by one event
-pub datagram_done : (layout : Layout) (k : Place) (p : Player) (edits : Edits) (bytes : List ℕ) (report : Verdict → Report) (verdict : Verdict)
+pub datagram_done : (layout : Layout) (k : Place) (p : Player) (edits : Edits) (bytes : List ℕ)
+    (report : Verdict → Report) (verdict : Verdict)
     (after : Play) (before told all : List Event) (event : Event) → IsPlace layout k p
     → Heard (table_in layout) k.client k.player bytes verdict after before told → all ≡ told ++ event ∷ []
     → Adds (table_in layout) told (told ++ event ∷ []) (report verdict ∷ [])
-    → IsDone layout (record k { client = after }) before all (after_datagram (table_in layout) edits AtClient report bytes p)
+    → IsDone layout (record k { client = after }) before all (after_datagram (table_in layout) edits AtClient report
+    bytes p)
 datagram_done layout k p edits bytes report verdict after before told all event i h pushed tells =
     let past = past_at (table_in layout) AtClient p in
     record {
       stands = took layout k p bytes after i (h.plays past i.plays) h.layout h.version;
-      adds = subst (λ (l : List Event). Adds (table_in layout) before l (after_datagram (table_in layout) edits AtClient report bytes p).1) (sym pushed)
+      adds = subst (λ (l : List Event). Adds (table_in layout) before l
+          (after_datagram (table_in layout) edits AtClient report bytes p).1) (sym pushed)
           (subst (λ (rs : List Report). Adds (table_in layout) before (told ++ event ∷ []) rs)
           (datagram_told layout k p edits bytes report verdict i (h.says past i.plays))
-          (adds_both (table_in layout) before told (told ++ event ∷ []) _ (report verdict ∷ []) (h.tells past i.plays) tells));
+          (adds_both (table_in layout) before told (told ++ event ∷ []) _ (report verdict ∷ []) (h.tells past i.plays)
+          tells));
     }
 
 -- ---- a delivery
@@ -118,14 +126,17 @@ too_late layout k p edits n bytes i get late =
 
 -- nor one that wasn't sent
 pub absent : (layout : Layout) (k : Place) (p : Player) (edits : Edits) (n : ℕ) → IsPlace layout k p
-    → slice_get k.down (n - 1) ≡ None → after_delivery (table_in layout) edits AtClient n p ≡ (p, Answered AtClient p.number n Absent ∷ [])
+    → slice_get k.down (n - 1) ≡ None → after_delivery (table_in layout) edits AtClient n p
+    ≡ (p, Answered AtClient p.number n Absent ∷ [])
 absent layout k p edits n i get =
     let got = got_at layout k p n None i get in rw got refl
 
 -- something is told of a place that stays
-pub stays : (layout : Layout) (k : Place) (p : Player) (before after : List Event) (event : Event) (report : Report) (done : Reported)
+pub stays : (layout : Layout) (k : Place) (p : Player) (before after : List Event) (event : Event) (report : Report)
+    (done : Reported)
     → IsPlace layout k p → after ≡ before ++ event ∷ []
-    → Adds (table_in layout) before (before ++ event ∷ []) (report ∷ []) → done ≡ (p, report ∷ []) → IsDone layout k before after done
+    → Adds (table_in layout) before (before ++ event ∷ []) (report ∷ []) → done ≡ (p, report ∷ [])
+    → IsDone layout k before after done
 stays layout k p before after event report done i pushed tells e =
     rw e (record {
       stands = i;
@@ -135,13 +146,15 @@ stays layout k p before after event report done i pushed tells e =
 -- ---- a call
 
 -- the client was asked to make a call
-pub called : (layout : Layout) (k : Place) (p : Player) (a n : ℕ) (args : List Arg) (answer : CallAnswer) (after : Play) (before all : List Event)
+pub called : (layout : Layout) (k : Place) (p : Player) (a n : ℕ) (args : List Arg) (answer : CallAnswer) (after : Play)
+    (before all : List Event)
     → IsPlace layout k p
     → ((past : Past) → Plays k.client past → Plays after (after_call AtClient past a n args))
     → ((past : Past) → Plays k.client past → answer ≡ answer_of AtClient past a n args)
     → after.layout ≡ k.client.layout → after.version ≡ k.client.version
     → all ≡ before ++ event.ClientCalled k.player answer ∷ []
-    → Adds (table_in layout) before (before ++ event.ClientCalled k.player answer ∷ []) (Called AtClient k.player answer ∷ [])
+    → Adds (table_in layout) before (before ++ event.ClientCalled k.player answer ∷ [])
+    (Called AtClient k.player answer ∷ [])
     → IsDone layout (record k { client = after }) before all (after_call_of (table_in layout) AtClient a n args p)
 called layout k p a n args answer after before all i plays answers classes version pushed tells =
     let past = past_at (table_in layout) AtClient p in
@@ -156,7 +169,8 @@ called layout k p a n args answer after before all i plays answers classes versi
         told_down = i.told_down;
         told_up = i.told_up;
       };
-      adds = subst (λ (l : List Event). Adds (table_in layout) before l (Called AtClient p.number (answer_of AtClient past a n args) ∷ [])) (sym pushed)
+      adds = subst (λ (l : List Event). Adds (table_in layout) before l
+          (Called AtClient p.number (answer_of AtClient past a n args) ∷ [])) (sym pushed)
           (same answer (answer_of AtClient past a n args) k.player p.number (answers past i.plays) i.number tells);
     }
   where
@@ -168,28 +182,34 @@ called layout k p a n args answer after before all i plays answers classes versi
 -- ---- the calls of a place
 
 -- an event is told
-pub told_one : (table : Table) (before : List Event) (e : Event) → Adds table before (before ++ e ∷ []) (report_of table e ∷ [])
+pub told_one : (table : Table) (before : List Event) (e : Event)
+    → Adds table before (before ++ e ∷ []) (report_of table e ∷ [])
 told_one table before e = map-append (report_of table) before (e ∷ [])
 
 -- of the player of the place
-as_player : (table : Table) (before after : List Event) (report : ℕ → Report) (m n : ℕ) → m ≡ n → Adds table before after (report m ∷ [])
+as_player : (table : Table) (before after : List Event) (report : ℕ → Report) (m n : ℕ) → m ≡ n
+    → Adds table before after (report m ∷ [])
     → Adds table before after (report n ∷ [])
 as_player table before after report m n e h = subst (λ k. Adds table before after (report k ∷ [])) e h
 
 -- a packet that wasn't sent
-pub absent_done : (layout : Layout) (k : Place) (p : Player) (edits : Edits) (n : ℕ) (before after : List Event) → IsPlace layout k p
+pub absent_done : (layout : Layout) (k : Place) (p : Player) (edits : Edits) (n : ℕ) (before after : List Event)
+    → IsPlace layout k p
     → slice_get k.down (n - 1) ≡ None → after ≡ before ++ event.Down k.player n delivery.Absent ∷ []
     → IsDone layout k before after (after_delivery (table_in layout) edits AtClient n p)
 absent_done layout k p edits n before after i get pushed =
-    stays layout k p before after (event.Down k.player n delivery.Absent) (Answered AtClient p.number n Absent) _ i pushed
+    stays layout k p before after (event.Down k.player n delivery.Absent) (Answered AtClient p.number n Absent) _ i
+    pushed
     (as_player (table_in layout) before _ (λ m. Answered AtClient m n Absent) k.player p.number i.number
     (told_one (table_in layout) before (event.Down k.player n delivery.Absent)))
     (absent layout k p edits n i get)
 
 -- one that is late
-pub late_done : (layout : Layout) (k : Place) (p : Player) (edits : Edits) (n : ℕ) (bytes : List ℕ) (before after : List Event) → IsPlace layout k p
+pub late_done : (layout : Layout) (k : Place) (p : Player) (edits : Edits) (n : ℕ) (bytes : List ℕ)
+    (before after : List Event) → IsPlace layout k p
     → slice_get k.down (n - 1) ≡ Some bytes → nat_lt (n + 8192) (top_of (past_at (table_in layout) AtClient p)) ≡ true
-    → after ≡ before ++ event.Down k.player n delivery.Late ∷ [] → IsDone layout k before after (after_delivery (table_in layout) edits AtClient n p)
+    → after ≡ before ++ event.Down k.player n delivery.Late ∷ []
+    → IsDone layout k before after (after_delivery (table_in layout) edits AtClient n p)
 late_done layout k p edits n bytes before after i get late pushed =
     stays layout k p before after (event.Down k.player n delivery.Late) (Answered AtClient p.number n Late) _ i pushed
     (as_player (table_in layout) before _ (λ m. Answered AtClient m n Late) k.player p.number i.number
@@ -197,7 +217,8 @@ late_done layout k p edits n bytes before after i get late pushed =
     (too_late layout k p edits n bytes i get late)
 
 -- one that is heard
-pub heard_done : (layout : Layout) (k : Place) (p : Player) (edits : Edits) (n : ℕ) (bytes : List ℕ) (verdict : Verdict) (after : Play)
+pub heard_done : (layout : Layout) (k : Place) (p : Player) (edits : Edits) (n : ℕ) (bytes : List ℕ) (verdict : Verdict)
+    (after : Play)
     (before told all : List Event) → IsPlace layout k p
     → slice_get k.down (n - 1) ≡ Some bytes → nat_lt (n + 8192) (top_of (past_at (table_in layout) AtClient p)) ≡ false
     → Heard (table_in layout) k.client k.player bytes verdict after before told
@@ -211,7 +232,8 @@ heard_done layout k p edits n bytes verdict after before told all i get late h p
     (told_one (table_in layout) told (event.Down k.player n (delivery.Says verdict)))))
 
 -- bytes that nobody sent
-pub forged_done : (layout : Layout) (k : Place) (p : Player) (edits : Edits) (bytes : List ℕ) (verdict : Verdict) (after : Play)
+pub forged_done : (layout : Layout) (k : Place) (p : Player) (edits : Edits) (bytes : List ℕ) (verdict : Verdict)
+    (after : Play)
     (before told all : List Event) → IsPlace layout k p
     → Heard (table_in layout) k.client k.player bytes verdict after before told
     → all ≡ told ++ event.ClientForged k.player verdict ∷ []
@@ -223,11 +245,13 @@ forged_done layout k p edits bytes verdict after before told all i h pushed =
     (told_one (table_in layout) told (event.ClientForged k.player verdict)))
 
 -- a call
-pub called_done : (layout : Layout) (k : Place) (p : Player) (a n : ℕ) (args : List Arg) (answer : CallAnswer) (after : Play) (before all : List Event)
+pub called_done : (layout : Layout) (k : Place) (p : Player) (a n : ℕ) (args : List Arg) (answer : CallAnswer)
+    (after : Play) (before all : List Event)
     → IsPlace layout k p
     → ((past : Past) → Plays k.client past → Plays after (after_call AtClient past a n args))
     → ((past : Past) → Plays k.client past → answer ≡ answer_of AtClient past a n args)
-    → after.layout ≡ k.client.layout → after.version ≡ k.client.version → all ≡ before ++ event.ClientCalled k.player answer ∷ []
+    → after.layout ≡ k.client.layout → after.version ≡ k.client.version
+    → all ≡ before ++ event.ClientCalled k.player answer ∷ []
     → IsDone layout (record k { client = after }) before all (after_call_of (table_in layout) AtClient a n args p)
 called_done layout k p a n args answer after before all i plays answers classes version pushed =
     called layout k p a n args answer after before all i plays answers classes version pushed
@@ -244,16 +268,19 @@ on_ok_then (Ok x) P Q h f = f h
 on_ok_then (Err e) P Q h f = tt
 
 -- what the clauses of a call that hears say
-pub heard_of : (layout : Layout) (k : Place) (p : Player) → IsPlace layout k p → {bytes : List ℕ} {verdict : Verdict} {after : Play} {before told : List Event}
+pub heard_of : (layout : Layout) (k : Place) (p : Player) → IsPlace layout k p
+    → {bytes : List ℕ} {verdict : Verdict} {after : Play} {before told : List Event}
     → ((past : Past) → Plays k.client past → verdict ≡ verdict_of (client.end_of k.client) past bytes)
     → ((past : Past) → Plays k.client past
-    → Adds (table_in k.client.layout) before told (handover_reports AtClient k.player (handovers_in (client.end_of k.client) past bytes)))
+    → Adds (table_in k.client.layout) before told (handover_reports AtClient k.player
+    (handovers_in (client.end_of k.client) past bytes)))
     → ((past : Past) → Plays k.client past → Plays after (after_got (client.end_of k.client) past bytes))
     → after.layout ≡ k.client.layout → after.version ≡ k.client.version
     → Heard (table_in layout) k.client k.player bytes verdict after before told
 heard_of layout k p i {bytes} {verdict} {after} {before} {told} says tells plays classes version = record {
   says = says;
-  tells = λ past h. subst (λ (l : Layout). Adds (table_in l) before told (handover_reports AtClient k.player (handovers_in (client.end_of k.client) past bytes)))
+  tells = λ past h. subst (λ (l : Layout). Adds (table_in l) before told
+      (handover_reports AtClient k.player (handovers_in (client.end_of k.client) past bytes)))
       i.classes (tells past h);
   plays = plays;
   layout = classes;

@@ -1,5 +1,5 @@
 -- Calls that are handed over, as ends tell them and as the story reports them.
-use Rattle.std.proofs.Common.{◌≡◌, ℕ, List, [], ◌∷◌, ◌++◌, map, filter_map, Bool, Option, Some, None, option_map, unwrap_or, refl, ap, sym, ◌∙◌, subst, append_assoc}
+use Rattle.std.proofs.Common.{◌≡◌, ℕ, List, [], ◌∷◌, ◌++◌, map, filter_map, length, Bool, Option, Some, None, option_map, unwrap_or, refl, ap, sym, ◌∙◌, subst, append_assoc, append-nil, arith}
 use Rattle.std.proofs.lemmas.List.{map-append}
 use Rattle.std.specs.List.{cons_option}
 use Rattle.protocol_model.specs.Side.{Side, AtServer, AtClient}
@@ -24,7 +24,8 @@ use Rattle.replay_places.specs.Doing.{Adds, handover_report, handover_reports}
 server_payload : (edits : Edits) (player channel : ℕ) (reliable held : Bool) (m : Message)
     → call_report edits AtServer player (record { channel = channel; reliable = reliable; held = held; message = m })
     ≡ option_map (handover_report AtServer player)
-    (handover_in (server_verdict edits player) (record { channel = channel; reliable = reliable; held = held; message = m }))
+    (handover_in (server_verdict edits player)
+    (record { channel = channel; reliable = reliable; held = held; message = m }))
 server_payload edits player channel reliable held (Opens exports actor class values) = refl
 server_payload edits player channel reliable held (Closes actor sleeps) = refl
 server_payload edits player channel reliable held (Updates actor class values) = refl
@@ -34,7 +35,8 @@ server_payload edits player channel reliable held (Gone actor) = refl
 client_payload : (edits : Edits) (player channel : ℕ) (reliable held : Bool) (m : Message)
     → call_report edits AtClient player (record { channel = channel; reliable = reliable; held = held; message = m })
     ≡ option_map (handover_report AtClient player)
-    (handover_in (λ actor held. client_verdict held) (record { channel = channel; reliable = reliable; held = held; message = m }))
+    (handover_in (λ actor held. client_verdict held)
+    (record { channel = channel; reliable = reliable; held = held; message = m }))
 client_payload edits player channel reliable held (Opens exports actor class values) = refl
 client_payload edits player channel reliable held (Closes actor sleeps) = refl
 client_payload edits player channel reliable held (Updates actor class values) = refl
@@ -49,7 +51,8 @@ one_more side player (Some h) r rs hs e es = rw (e, es) refl
 
 -- at the server, by the world as it is
 pub server_reports : (edits : Edits) (player : ℕ) (ds : List Delivered)
-    → handover_reports AtServer player (handovers (server_verdict edits player) ds) ≡ filter_map (call_report edits AtServer player) ds
+    → handover_reports AtServer player (handovers (server_verdict edits player) ds)
+    ≡ filter_map (call_report edits AtServer player) ds
 server_reports edits player [] = refl
 server_reports edits player (d ∷ ds) =
     sym (one_more AtServer player (handover_in (server_verdict edits player) d) _ _ _
@@ -57,7 +60,8 @@ server_reports edits player (d ∷ ds) =
 
 -- at a client
 pub client_reports : (edits : Edits) (player : ℕ) (ds : List Delivered)
-    → handover_reports AtClient player (handovers (λ actor held. client_verdict held) ds) ≡ filter_map (call_report edits AtClient player) ds
+    → handover_reports AtClient player (handovers (λ actor held. client_verdict held) ds)
+    ≡ filter_map (call_report edits AtClient player) ds
 client_reports edits player [] = refl
 client_reports edits player (d ∷ ds) =
     sym (one_more AtClient player (handover_in (λ actor held. client_verdict held) d) _ _ _
@@ -76,16 +80,19 @@ pub told_call : (layout : Layout) (side : Side) (player : ℕ) (h : Handed)
 told_call layout side player h = rw (named (call_at (class_at (table_in layout) h.class) h.call)) refl
 
 -- one event more
-pub adds_one : (table : Table) (before mid after : List Event) (reports : List Report) (e : Event) → Adds table before mid reports
+pub adds_one : (table : Table) (before mid after : List Event) (reports : List Report) (e : Event)
+    → Adds table before mid reports
     → after ≡ mid ++ e ∷ [] → Adds table before after (reports ++ report_of table e ∷ [])
 adds_one table before mid after reports e told pushed =
     ap (map (report_of table)) pushed ∙ map-append (report_of table) mid (e ∷ [])
     ∙ ap (λ (rs : List Report). rs ++ report_of table e ∷ []) told
     ∙ append_assoc (map (report_of table) before) reports (report_of table e ∷ [])
 
-more : (layout : Layout) (side : Side) (player : ℕ) (hs : List Handed) (h : Handed) (before mid after : List Event) (e : Event)
+more : (layout : Layout) (side : Side) (player : ℕ) (hs : List Handed) (h : Handed) (before mid after : List Event)
+    (e : Event)
     → report_of (table_in layout) e ≡ handover_report side player (handover_of layout h)
-    → Adds (table_in layout) before mid (handover_reports side player (map (handover_of layout) hs)) → after ≡ mid ++ e ∷ []
+    → Adds (table_in layout) before mid (handover_reports side player (map (handover_of layout) hs))
+    → after ≡ mid ++ e ∷ []
     → Adds (table_in layout) before after (handover_reports side player (map (handover_of layout) (hs ++ h ∷ [])))
 more layout side player hs h before mid after e is told pushed =
     subst (Adds (table_in layout) before after)
@@ -100,11 +107,18 @@ pub client_more : (layout : Layout) (player : ℕ) (hs : List Handed) (h : Hande
     → after ≡ mid ++ event.ClientHanded player h ∷ []
     → Adds (table_in layout) before after (handover_reports AtClient player (map (handover_of layout) (hs ++ h ∷ [])))
 client_more layout player hs h before mid after told pushed =
-    more layout AtClient player hs h before mid after (event.ClientHanded player h) (told_call layout AtClient player h) told pushed
+    more layout AtClient player hs h before mid after (event.ClientHanded player h) (told_call layout AtClient player h)
+    told pushed
 
 pub server_more : (layout : Layout) (player : ℕ) (hs : List Handed) (h : Handed) (before mid after : List Event)
     → Adds (table_in layout) before mid (handover_reports AtServer player (map (handover_of layout) hs))
     → after ≡ mid ++ event.Handed player h ∷ []
     → Adds (table_in layout) before after (handover_reports AtServer player (map (handover_of layout) (hs ++ h ∷ [])))
 server_more layout player hs h before mid after told pushed =
-    more layout AtServer player hs h before mid after (event.Handed player h) (told_call layout AtServer player h) told pushed
+    more layout AtServer player hs h before mid after (event.Handed player h) (told_call layout AtServer player h) told
+    pushed
+
+-- where none is left, all were told
+pub all_told : (told left calls : List Handed) → length left ≡ 0 → told ++ left ≡ calls → told ≡ calls
+all_told told [] calls none all = sym (append-nil told) ∙ all
+all_told told (x ∷ left) calls none all = absurd (omega arith)

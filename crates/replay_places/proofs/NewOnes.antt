@@ -39,7 +39,8 @@ kept_more f [] k = by (f k)
 kept_more f (x ∷ xs) k = by (f x) (kept_more f xs k)
   where
     by : (b : Bool) → filter f (xs ++ k ∷ []) ≡ filter f xs ++ (if f k then k ∷ [] else [])
-        → cond b (x ∷ filter f (xs ++ k ∷ [])) (filter f (xs ++ k ∷ [])) ≡ cond b (x ∷ filter f xs) (filter f xs) ++ (if f k then k ∷ [] else [])
+        → cond b (x ∷ filter f (xs ++ k ∷ [])) (filter f (xs ++ k ∷ [])) ≡ cond b (x ∷ filter f xs) (filter f xs)
+        ++ (if f k then k ∷ [] else [])
     by true e = ap (λ (l : List ℕ). x ∷ l) e
     by false e = e
 
@@ -56,29 +57,35 @@ one_more table edits side every from told n =
     let before = range_with_len (from + 1) n in
     ap (λ (l : List ℕ). fold (also_delivery table edits side) told (filter (is_kept every) l)) (range_more (from + 1) n)
     ∙ ap (fold (also_delivery table edits side) told) (kept_more (is_kept every) before k)
-    ∙ fold_more (also_delivery table edits side) told (filter (is_kept every) before) (if is_kept every k then k ∷ [] else [])
+    ∙ fold_more (also_delivery table edits side) told (filter (is_kept every) before)
+    (if is_kept every k then k ∷ [] else [])
     ∙ by (delivered table edits side every from told n) k (is_kept every k) refl
   where
     by : (now : Reported) (k : ℕ) (b : Bool) → is_kept every k ≡ b
-        → fold (also_delivery table edits side) now (if is_kept every k then k ∷ [] else []) ≡ also_kept table edits side every now k
+        → fold (also_delivery table edits side) now (if is_kept every k then k ∷ [] else [])
+        ≡ also_kept table edits side every now k
     by now k true e = rw e refl
     by now k false e = rw e (ap (λ (rs : List Report). let r : Reported = (now.0, rs) in r) (sym (append-nil now.1)))
 
 -- ---- at a place
 
 -- a packet that isn't lost
-pub kept_done : (layout : Layout) (l : Place) (edits : Edits) (p : Player) (every n : ℕ) (before told : List Event) → is_kept every n ≡ true
+pub kept_done : (layout : Layout) (l : Place) (edits : Edits) (p : Player) (every n : ℕ) (before told : List Event)
+    → is_kept every n ≡ true
     → IsDone layout l before told (after_delivery (table_in layout) edits AtClient n p)
     → IsDone layout l before told (kept_delivery (table_in layout) edits AtClient every n p)
 kept_done layout l edits p every n before told e h = rw e h
 
 -- one that is
-pub lost_done : (layout : Layout) (k : Place) (edits : Edits) (p : Player) (every n : ℕ) (events : List Event) → IsPlace layout k p → is_kept every n ≡ false
+pub lost_done : (layout : Layout) (k : Place) (edits : Edits) (p : Player) (every n : ℕ) (events : List Event)
+    → IsPlace layout k p → is_kept every n ≡ false
     → IsDone layout k events events (kept_delivery (table_in layout) edits AtClient every n p)
-lost_done layout k edits p every n events i e = rw e (record { stands = i; adds = sym (append-nil (map (report_of (table_in layout)) events)) })
+lost_done layout k edits p every n events i e =
+    rw e (record { stands = i; adds = sym (append-nil (map (report_of (table_in layout)) events)) })
 
 -- before the first of them
-pub begins : (layout : Layout) (k : Place) (edits : Edits) (p : Player) (every from to : ℕ) (events : List Event) → IsPlace layout k p
+pub begins : (layout : Layout) (k : Place) (edits : Edits) (p : Player) (every from to : ℕ) (events : List Event)
+    → IsPlace layout k p
     → IsDone layout (record k { told_down = to }) events events
     (delivered (table_in layout) edits AtClient every from (with_told AtClient to p, []) (from - from))
 begins layout k edits p every from to events i =
@@ -98,9 +105,11 @@ begins layout k edits p every from to events i =
     })
 
 -- one more of them
-pub also_done : (layout : Layout) (k l : Place) (edits : Edits) (every from at n : ℕ) (start : Reported) (before told all : List Event) → from ≤ at → n ≡ at + 1
+pub also_done : (layout : Layout) (k l : Place) (edits : Edits) (every from at n : ℕ) (start : Reported)
+    (before told all : List Event) → from ≤ at → n ≡ at + 1
     → IsDone layout k before told (delivered (table_in layout) edits AtClient every from start (at - from))
-    → ((p : Player) → IsPlace layout k p → IsDone layout l told all (kept_delivery (table_in layout) edits AtClient every n p))
+    → ((p : Player) → IsPlace layout k p → IsDone layout l told all
+    (kept_delivery (table_in layout) edits AtClient every n p))
     → IsDone layout l before all (delivered (table_in layout) edits AtClient every from start (at + 1 - from))
 also_done layout k l edits every from at n start before told all low number so does =
     let done = delivered (table_in layout) edits AtClient every from start (at - from) in
@@ -109,7 +118,8 @@ also_done layout k l edits every from at n start before told all low number so d
     let last : from + 1 + (at - from) ≡ n = omega arith in
     let both : IsDone layout l before all (also_kept (table_in layout) edits AtClient every done n) = record {
       stands = next.stands;
-      adds = adds_both (table_in layout) before told all done.1 (kept_delivery (table_in layout) edits AtClient every n done.0).1 so.adds next.adds;
+      adds = adds_both (table_in layout) before told all done.1
+          (kept_delivery (table_in layout) edits AtClient every n done.0).1 so.adds next.adds;
     } in
     subst (IsDone layout l before all)
     (ap (also_kept (table_in layout) edits AtClient every done) (sym last)
@@ -117,13 +127,18 @@ also_done layout k l edits every from at n start before told all low number so d
     ∙ ap (delivered (table_in layout) edits AtClient every from start) (sym count)) both
 
 -- all of them
-pub new_done : (layout : Layout) (k l : Place) (edits : Edits) (p : Player) (every from to at : ℕ) (before told : List Event) → IsPlace layout k p
+pub new_done : (layout : Layout) (k l : Place) (edits : Edits) (p : Player) (every from to at : ℕ)
+    (before told : List Event) → IsPlace layout k p
     → from ≡ k.told_down → to ≡ length k.down → to - from ≡ at - from
-    → IsDone layout l before told (delivered (table_in layout) edits AtClient every from (with_told AtClient to p, []) (at - from))
+    → IsDone layout l before told (delivered (table_in layout) edits AtClient every from (with_told AtClient to p, [])
+    (at - from))
     → IsDone layout l before told (after_new_deliveries (table_in layout) edits AtClient every p)
 new_done layout k l edits p every from to at before told i f t last so =
     let first : from ≡ p.told_client = f ∙ i.told_down in
     let count : to ≡ length (out_at (table_in layout) AtServer p) = t ∙ ap length i.down in
-    subst (λ m. IsDone layout l before told (delivered (table_in layout) edits AtClient every p.told_client (with_told AtClient m p, []) (m - p.told_client))) count
-    (subst (λ m. IsDone layout l before told (delivered (table_in layout) edits AtClient every m (with_told AtClient to p, []) (to - m))) first
-    (subst (λ m. IsDone layout l before told (delivered (table_in layout) edits AtClient every from (with_told AtClient to p, []) m)) (sym last) so))
+    subst (λ m. IsDone layout l before told (delivered (table_in layout) edits AtClient every p.told_client
+    (with_told AtClient m p, []) (m - p.told_client))) count
+    (subst (λ m. IsDone layout l before told (delivered (table_in layout) edits AtClient every m
+    (with_told AtClient to p, []) (to - m))) first
+    (subst (λ m. IsDone layout l before told (delivered (table_in layout) edits AtClient every from
+    (with_told AtClient to p, []) m)) (sym last) so))

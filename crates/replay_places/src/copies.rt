@@ -3,32 +3,35 @@ ghost use Rattle.std.specs.Prelude.{◌≡◌, ◌∷◌, [], ◌++◌, map, OnO
 ghost use Rattle.replication_model.specs.Story.{Player as PlayerStory, copies_reports};
 ghost use Rattle.class_layout.specs.Tables.{Layout, table_in};
 ghost use Rattle.actor_copies.specs.Copies.{copy_value_of};
-ghost use Rattle.replay_places.specs.Places.{IsPlace};
+ghost use Rattle.replay_places.specs.Places.{IsClient};
 ghost use Rattle.replay_places.specs.Doing.{Adds, copied_report};
 
-use crate::place::Place;
 use actor_copies::ActorCopy;
+use client_world::Client;
 use net_core::{Memory, Player};
 use script_lines::{Event, EventList};
 use std::alloc::Global;
 
-impl<'a> Place<'a> {
-    /// Tells the client's copies, ascending by actor.
-    pub fn tell_copies(&self, alloc: Global, events: &mut EventList) -> Result<(), Memory>
-        ensures { OnOk result ((layout : Layout) (p : PlayerStory) → IsPlace layout self.now p
-            → Adds (table_in layout) events.old events.new (copies_reports (table_in layout) p)) }
-    {
-        let player = self.player;
-        let copies = self.client.copies();
-        events.push(Event::Copies {
-            player,
-            count: copies.len(),
-        })?;
-        for copy in copies.in_order()? {
-            tell_copy(alloc, player, copy, events)?;
-        }
-        Ok(())
+/// Tells the copies of a player's client, ascending by actor.
+pub fn tell_copies(
+    alloc: Global,
+    client: &Client<'_>,
+    player: Player,
+    events: &mut EventList,
+) -> Result<(), Memory>
+    ensures { OnOk result ((layout : Layout) (p : PlayerStory)
+        → IsClient layout client.now player p
+        → Adds (table_in layout) events.old events.new (copies_reports (table_in layout) p)) }
+{
+    let copies = client.copies();
+    events.push(Event::Copies {
+        player,
+        count: copies.len(),
+    })?;
+    for copy in copies.in_order()? {
+        tell_copy(alloc, player, copy, events)?;
     }
+    Ok(())
 }
 
 /// Tells a copy.

@@ -136,7 +136,7 @@ pub fn is_kept(every: u32, packet: u64) -> bool
 }
 
 /// The client hears a datagram: tells the calls that it hands over, and answers what it says.
-fn hear(
+pub fn hear(
     client: &mut Client<'_>,
     player: Player,
     bytes: &[u8],

@@ -24,7 +24,8 @@ mod place;
 mod sending;
 
 pub use client_world::Client;
-pub use hearing::is_kept;
+pub use copies::tell_copies;
+pub use hearing::{hear, is_kept};
 pub use net_core::{Blob, Guid, Items, Memory, Player};
 pub use place::Place;
 pub use script_lines::{Delivery, Event, EventList};

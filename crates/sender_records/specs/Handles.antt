@@ -16,7 +16,7 @@ use Rattle.connection_model.specs.Carry.{Carry, carry_of}
 use Rattle.sender_laws.specs.Values.{place_of, value_by, value_now, tick_now}
 use Rattle.sender_records.specs.declared.handle.HandleRecord.{HandleRecord}
 
--- what is kept of the handles of an actor that is open: the tick of the newest change that was looked at, the
+-- what is kept of the handles of an actor that is open: a tick up to which each change was looked at, the
 -- connection's tick of the last comparison or of the open, and a record a handle
 pub record HandlesKept : Type 0 where
   pub compared : ℕ
@@ -170,6 +170,12 @@ AllBelow n values = (i : ℕ) (p : PairValue) → slice_get values i ≡ Some p 
 abbrev pub Agrees : List Sample → List Pair → Type 0
 Agrees samples values = (h : ℕ) (v : ℤ) → value_among values h ≡ Some v → h ≢ 3
     → (place_of h < value_count samples) × (value_now samples (place_of h) ≡ Some v)
+
+-- the values are those of the newest sample, which was taken at this tick, each handle once
+pub record AreNewest (samples : List Sample) (newest : ℕ) (values : List PairValue) : Type 0 where
+  pub apart : AreApart (pairs_of values)
+  pub agrees : Agrees samples (pairs_of values)
+  pub tick : newest ≡ tick_now samples
 
 -- the values are those of the newest sample, each handle once, and the changes are those noted above a tick
 pub record IsSampled (samples : List Sample) (since : ℕ) (values : List PairValue) (changes : List ChangeValue)

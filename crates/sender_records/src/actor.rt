@@ -16,7 +16,7 @@ ghost use Rattle.sender_laws.specs.Items.{has_update};
 ghost use Rattle.sender_laws.specs.States.{flush_seen};
 ghost use Rattle.sender_laws.specs.Values.{AreInTurn, IsCurrent};
 ghost use Rattle.sender_records.specs.Service.{shows_owned};
-ghost use Rattle.sender_records.specs.Handles.{handle_in, pairs_of, AreApart, AllBelow, Agrees, IsSampled};
+ghost use Rattle.sender_records.specs.Handles.{handle_in, pairs_of, AreApart, AllBelow, Agrees, AreNewest};
 ghost use Rattle.sender_records.specs.Actors.{KeepsActor, fresh_actor};
 
 use crate::life::Life;
@@ -24,7 +24,6 @@ use crate::service::Service;
 use crate::table::HandleTable;
 use class_layout::{Class, Pair};
 use net_core::{Guid, Memory};
-use shadow_changes::Change;
 use std::alloc::Global;
 
 /// What is kept of one actor.
@@ -84,8 +83,8 @@ impl ActorRecord {
     }
 
     /// An open with these values is made in this tick on an index that is clear, below packets
-    /// without an update of the actor; the changes are those of the actor since tick 0. `Memory`
-    /// changes nothing.
+    /// without an update of the actor; they were sampled at the tick `sampled`. `Memory` changes
+    /// nothing.
     pub fn opens(
         &mut self,
         tick: u64,
@@ -93,7 +92,7 @@ impl ActorRecord {
         class: &Class,
         owns: bool,
         values: &[Pair],
-        changes: &[Change],
+        sampled: u64,
     ) -> Result<(), Memory>
         requires { 1 ≤ tick }
         ensures keeps { OnOk result ((sent past : Past) (actor : ℕ) (exports : List SegmentSpec)
@@ -102,14 +101,14 @@ impl ActorRecord {
             → has_update actor sent ≡ false → ArrivesMade (sent ++ past)
             → span (sent ++ past) index ≡ 0 → tick ≡ tick_count past
             → 1 ≤ self.old.service.relevant_at
-            → IsSampled samples 0 values.now changes.now → AreInTurn samples
+            → AreNewest samples sampled values.now → AreInTurn samples
             → KeepsActor (sent ++ after_making past index
             (Opens exports actor shown (pairs_of values.now))) samples actor self.new) }
         ensures last { OnOk result (self.new.handles.last ≡ tick) }
         ensures ok { AllBelow (length self.old.handles.handles) values.now → IsOk result }
         ensures err { OnErr result (self.new ≡ self.old) }
     {
-        self.handles.opens(tick, class, owns, values, changes)?;
+        self.handles.opens(tick, class, owns, values, sampled)?;
         self.life.opens(index);
         self.service.serves(tick);
         Ok(())

@@ -17,7 +17,7 @@ ghost use Rattle.connection_model.specs.Items.{is_update_of};
 ghost use Rattle.sender_laws.specs.Acts.{MovesTo, are_sent, sent_more};
 ghost use Rattle.sender_laws.specs.Items.{has_update};
 ghost use Rattle.sender_laws.specs.Values.{AreInTurn, IsCurrent};
-ghost use Rattle.sender_records.specs.Handles.{no_handles, handle_in, pair_value, pairs_of, KeepsHandles, AreApart, AllBelow, Agrees, IsSampled, is_updatable_in};
+ghost use Rattle.sender_records.specs.Handles.{no_handles, handle_in, pair_value, pairs_of, KeepsHandles, AreApart, AreNewest, AllBelow, Agrees, IsSampled, is_updatable_in};
 
 use crate::handle::HandleRecord;
 use crate::values::{
@@ -62,8 +62,7 @@ impl HandleTable {
         }
     }
 
-    /// The tick of the newest change that was looked at, from which on changes are to be asked for;
-    /// 0 where there was none.
+    /// The tick above which changes are to be asked for: each one up to it was looked at.
     pub fn compared(&self) -> u64
         ensures { result ≡ self.now.compared }
     {
@@ -78,20 +77,20 @@ impl HandleTable {
     }
 
     /// An open with these values is made in this tick, below packets without an update of the
-    /// actor; the changes are those of the actor since tick 0. `Memory` changes nothing.
+    /// actor; they were sampled at the tick `sampled`. `Memory` changes nothing.
     pub fn opens(
         &mut self,
         tick: u64,
         class: &Class,
         owns: bool,
         values: &[Pair],
-        changes: &[Change],
+        sampled: u64,
     ) -> Result<(), Memory>
         requires { 1 ≤ tick }
         ensures keeps { OnOk result ((sent past : Past) (channel actor : ℕ)
             (exports : List SegmentSpec) (shown : ClassSpec) (samples : List Sample)
             → are_sent sent ≡ true → has_update actor sent ≡ false → tick ≡ tick_count past
-            → IsSampled samples 0 values.now changes.now → AreInTurn samples
+            → AreNewest samples sampled values.now → AreInTurn samples
             → KeepsHandles (sent ++ after_making past channel
             (Opens exports actor shown (pairs_of values.now))) samples actor self.new) }
         ensures last { OnOk result (self.new.last ≡ tick) }
@@ -101,7 +100,7 @@ impl HandleTable {
         grow(&mut self.handles, values)?;
         forget_all(&mut self.handles);
         open_all(&mut self.handles, tick, class, owns, values);
-        self.compared = newest(0, changes);
+        self.compared = sampled;
         self.last = tick;
         Ok(())
     }

@@ -33,7 +33,7 @@ fn a_changed_value_is_due_until_an_update_carries_it(rt: HostRuntime) -> Result<
     };
     let mut record = ActorRecord::new(rt.alloc(), Guid(2));
     record.shows(1, true, false);
-    record.opens(1, 1, pawn, false, &hp(100), &[])?;
+    record.opens(1, 1, pawn, false, &hp(100), 0)?;
     record.handles.compares(2, pawn, false, &hp(100), &[])?;
     assert!(rt; !record.handles.is_marked(Handle(4)));
     record
@@ -52,7 +52,7 @@ fn a_value_is_due_again_once_its_packet_is_lost(rt: HostRuntime) -> Result<(), F
     };
     let mut record = ActorRecord::new(rt.alloc(), Guid(2));
     record.shows(1, true, false);
-    record.opens(1, 1, pawn, false, &hp(1), &[])?;
+    record.opens(1, 1, pawn, false, &hp(1), 0)?;
     // to 2 in packet 5, which is lost, and back to 1
     let values = hp(2);
     record

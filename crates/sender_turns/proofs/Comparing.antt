@@ -10,9 +10,9 @@ use Rattle.connection_model.specs.Carry.{is_updatable, is_due_pair, due_pairs}
 use Rattle.class_layout.specs.Tables.{Layout, table_in}
 use Rattle.value_codec.specs.declared.pair.Pair.{Pair as PairValue}
 use Rattle.shadow_changes.specs.declared.change.Change.{Change as ChangeValue}
-use Rattle.shadow_changes.specs.Lists.{AreRising}
+use Rattle.shadow_changes.specs.Lists.{AreRising, last_tick}
 use Rattle.shadow_changes.specs.Samples.{change_value}
-use Rattle.sender_laws.specs.Values.{AreInTurn}
+use Rattle.sender_laws.specs.Values.{AreInTurn, tick_now}
 use Rattle.sender_records.specs.Handles.{HandlesKept, handle_in, pairs_of, AreApart, IsSampled, is_updatable_in}
 use Rattle.sender_steps.specs.declared.sight.Seen.{Seen as SeenValue}
 use Rattle.sender_steps.specs.Sights.{seen_value}
@@ -23,6 +23,11 @@ pub in_turn : (samples : List Sample) → AreRising samples → AreInTurn sample
 in_turn [] h = tt
 in_turn (s ∷ []) h = (h.0, tt)
 in_turn (s ∷ t ∷ samples) h = (h.0, in_turn (t ∷ samples) h.1)
+
+-- the tick of the newest sample, by either name
+pub same_tick : (samples : List Sample) → last_tick samples ≡ tick_now samples
+same_tick [] = refl
+same_tick (s ∷ samples) = refl
 
 pub sampled : (samples : List Sample) (since : ℕ) (values : List PairValue) (changes : List ChangeValue)
     → AreSampled samples values → map change_value changes ≡ changes_since samples since

@@ -14,7 +14,6 @@ use Rattle.connection_laws.specs.Run.{Ascends}
 use Rattle.connection_laws.proofs.ActorMarks.{index_same}
 use Rattle.channel_table.specs.Holders.{Bound, channel_bound, actor_bound, IsPaired}
 use Rattle.value_codec.specs.declared.pair.Pair.{Pair as PairValue}
-use Rattle.shadow_changes.specs.declared.change.Change.{Change as ChangeValue}
 use Rattle.shadow_changes.specs.Samples.{Samples, samples_of}
 use Rattle.sender_laws.specs.Acts.{are_sent}
 use Rattle.sender_laws.specs.States.{is_pending}
@@ -133,9 +132,9 @@ none_bound bound past ch h free = by (actor_bound bound ch) refl
 -- ---- what is kept
 
 module _ (s : Sender) (sent past : Past) (samples : Samples) (a tick : ℕ) (exports : List Segment) (shown : Class)
-    (pairs : List Pair) (values : List PairValue) (changes : List ChangeValue) (o : OpenSent)
+    (pairs : List Pair) (values : List PairValue) (newest : ℕ) (o : OpenSent)
     (told : IsOpenTold s sent past samples a (Opens exports a shown pairs) o)
-    (may : MayOpen sent past samples a o.channel tick values changes) where
+    (may : MayOpen sent past samples a o.channel tick values newest) where
   abbrev m : Message
   m = Opens exports a shown pairs
 

@@ -4,7 +4,6 @@ use Rattle.std.specs.List.{list_any, AllByRecursion}
 use Rattle.std.proofs.lemmas.Bool.{false≢true}
 use Rattle.protocol_model.specs.Payload.{Message, parts_of}
 use Rattle.protocol_model.specs.Side.{AtServer}
-use Rattle.change_model.specs.Changes.{changes_since}
 use Rattle.connection_model.specs.Feed.{End, Past, Sent, Item, tick_count}
 use Rattle.connection_model.specs.Fates.{last_sent, high_of}
 use Rattle.connection_model.specs.Bunches.{made_count, has_arrived, room, after_making, span}
@@ -30,8 +29,8 @@ use Rattle.bunch_packing.specs.Opens.{part_items, open_first}
 use Rattle.bunch_packing.proofs.Offering.{made_all}
 use Rattle.bunch_packing.proofs.Opening.{open_over, open_none, open_made}
 use Rattle.bunch_packing.proofs.Pushing.{behind, same_last}
-use Rattle.shadow_changes.specs.declared.change.Change.{Change as ChangeValue}
-use Rattle.shadow_changes.specs.Samples.{Shadows, Samples, change_value, samples_of}
+use Rattle.shadow_changes.specs.Lists.{last_tick}
+use Rattle.shadow_changes.specs.Samples.{Shadows, Samples, samples_of}
 use Rattle.sender_laws.specs.Acts.{are_sent, ArrivesMade}
 use Rattle.sender_laws.specs.Items.{has_update}
 use Rattle.sender_laws.proofs.Opens.{known_under}
@@ -44,7 +43,7 @@ use Rattle.sender_steps.specs.Sights.{seen_value}
 use Rattle.sender_steps.specs.Stands.{Keeps, KeepsBoth}
 use Rattle.sender_turns.specs.Opening.{AreBound, MayOpen, IsOpenTold}
 use Rattle.sender_turns.specs.Ticking.{HasParts, InTick, IsOpening, IsKept, IsUnseen, IsUnserved, after_opening}
-use Rattle.sender_turns.proofs.Comparing.{in_turn}
+use Rattle.sender_turns.proofs.Comparing.{in_turn, same_tick}
 use Rattle.sender_turns.proofs.Offered.{keeps_offers, parts_unseen}
 
 -- ---- who is to be opened
@@ -234,16 +233,16 @@ module _ (layout : Layout) (changes : Shadows) (seen : SeenValue) (s : Sender) (
         sent_under p.past made_past p.packets a (same_last p.past o.channel m) (same_ticks p.past o.channel m)
         h.unserved
 
-    pub may : (changed : List ChangeValue) → map change_value changed ≡ changes_since (samples_of samples a) 0
-        → MayOpen under.sent p.past samples a o.channel tick seen.values changed
-    may changed told = record {
+    pub may : (newest : ℕ) → newest ≡ last_tick (samples_of samples a)
+        → MayOpen under.sent p.past samples a o.channel tick seen.values newest
+    may newest told = record {
       sends = under.sends;
       unsent = under.unsent;
       made = subst ArrivesMade under.is unmade_now;
       clear = subst (λ (past : Past). span past o.channel ≡ 0) under.is k.clear;
       free = λ b. subst (λ (past : Past). index_of past b ≢ Some o.channel) under.is (k.free b);
       now = h.ticks;
-      sampled = record { apart = h.entry.sampled.0; agrees = h.entry.sampled.1; told = told };
+      sampled = record { apart = h.entry.sampled.0; agrees = h.entry.sampled.1; tick = told ∙ same_tick (samples_of samples a) };
       turn = in_turn (samples_of samples a) (h.noted.each a).rising;
     }
 

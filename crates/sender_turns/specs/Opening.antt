@@ -9,12 +9,11 @@ use Rattle.connection_model.specs.Exports.{exports_segment}
 use Rattle.connection_model.specs.State.{index_of}
 use Rattle.channel_table.specs.Holders.{Bound, channel_bound, IsPaired}
 use Rattle.value_codec.specs.declared.pair.Pair.{Pair as PairValue}
-use Rattle.shadow_changes.specs.declared.change.Change.{Change as ChangeValue}
 use Rattle.shadow_changes.specs.Samples.{Samples, samples_of}
 use Rattle.sender_laws.specs.Acts.{are_sent, ArrivesMade}
 use Rattle.sender_laws.specs.Items.{has_update}
 use Rattle.sender_laws.specs.Values.{AreInTurn}
-use Rattle.sender_records.specs.Handles.{IsSampled}
+use Rattle.sender_records.specs.Handles.{AreNewest}
 use Rattle.sender_steps.specs.Sender.{Sender, record_in}
 use Rattle.sender_steps.specs.Stands.{Keeps}
 use Rattle.sender_steps.specs.declared.sent.OpenSent.{OpenSent}
@@ -31,17 +30,17 @@ with_open opens o = with_if o.guids
     with_if [] = opens
     with_if (g ∷ guids) = opens ++ o ∷ []
 
--- an open of the actor with these values may be made in this tick on the index, which is clear and
--- held by none, below packets of the tick that have no update of it
+-- an open of the actor with these values, sampled at a tick, may be made in this tick on the index,
+-- which is clear and held by none, below packets of the tick that have no update of it
 pub record MayOpen (sent past : Past) (samples : Samples) (actor index tick : ℕ)
-    (values : List PairValue) (changes : List ChangeValue) : Type 0 where
+    (values : List PairValue) (newest : ℕ) : Type 0 where
   pub sends : are_sent sent ≡ true
   pub unsent : has_update actor sent ≡ false
   pub made : ArrivesMade (sent ++ past)
   pub clear : span (sent ++ past) index ≡ 0
   pub free : (a : ℕ) → index_of (sent ++ past) a ≢ Some index
   pub now : tick ≡ tick_count past
-  pub sampled : IsSampled (samples_of samples actor) 0 values changes
+  pub sampled : AreNewest (samples_of samples actor) newest values
   pub turn : AreInTurn (samples_of samples actor)
 
 -- the message opens an actor that was shown as relevant, and what is told of it is right: its index

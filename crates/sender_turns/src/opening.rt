@@ -25,7 +25,7 @@ ghost use Rattle.sender_laws.specs.Acts.{are_sent};
 ghost use Rattle.sender_laws.specs.Items.{CarriesAwaited};
 ghost use Rattle.sender_laws.specs.Values.{AreInTurn};
 ghost use Rattle.sender_records.specs.Actors.{KeepsActor};
-ghost use Rattle.sender_records.specs.Handles.{IsSampled, handle_in, pairs_of};
+ghost use Rattle.sender_records.specs.Handles.{AreNewest, handle_in, pairs_of};
 ghost use Rattle.sender_records.specs.Life.{state_value};
 ghost use Rattle.connection_model.specs.State.{Opening, free_index, index_of};
 ghost use Rattle.sender_steps.specs.Sender.{Sender, record_in};
@@ -42,7 +42,6 @@ use payload_writing::laws::path_may_be_exported;
 use payload_writing::open_payload;
 use sender_records::ActorRecord;
 use sender_steps::{OpenSent, Seen};
-use shadow_changes::Change;
 use std::alloc::Global;
 use std::collections::HashMap;
 
@@ -239,7 +238,7 @@ pub(crate) fn free_channel(table: &ChannelTable) -> Result<u16, Memory>
 
 /// Keeps of an open that was made in this tick, with the values of this entry, what is to be known
 /// of it: the actor's record, its segments, that the actor is pending and live, and that it holds
-/// the channel, which no actor held. The changes are those of the actor since tick 0. An actor that
+/// the channel, which no actor held. The values were sampled at the tick `sampled`. An actor that
 /// was never shown has no record, and is refused.
 pub(crate) fn keep_open(
     records: &mut HashMap<u32, ActorRecord>,
@@ -251,7 +250,7 @@ pub(crate) fn keep_open(
     class: &Class,
     seen: &Seen,
     tick: u64,
-    changes: &[Change],
+    sampled: u64,
     made: OpenSent,
 ) -> Result<(), Memory>
     requires tick { 1 ≤ tick }
@@ -264,7 +263,7 @@ pub(crate) fn keep_open(
         (exports : List SegmentSpec) (shown : ClassSpec)
         → IsOpenTold s sent past samples seen.now.actor
         (Opens exports seen.now.actor shown (pairs_of seen.now.values)) made
-        → MayOpen sent past samples seen.now.actor made.channel tick seen.now.values changes.now
+        → MayOpen sent past samples seen.now.actor made.channel tick seen.now.values sampled
         → s.records ≡ records.old.entries
         → s.pending ≡ pending.old.items → s.live ≡ live.old.items
         → s.known ≡ known.old.items → s.opens ≡ opens.old.items
@@ -286,7 +285,7 @@ pub(crate) fn keep_open(
     ensures places { OnOk result ((g : ℕ) → slice_index_or known.new.items g false
         ≡ slice_index_or known.old.items g false) }
 {
-    open_in(records, class, seen, tick, made.channel, changes)?;
+    open_in(records, class, seen, tick, made.channel, sampled)?;
     pending.push(seen.actor)?;
     insert_live(live, seen.actor)?;
     table.bind(made.channel, seen.actor)?;
@@ -301,7 +300,7 @@ fn open_in(
     seen: &Seen,
     tick: u64,
     index: u16,
-    changes: &[Change],
+    sampled: u64,
 ) -> Result<(), Memory>
     requires { 1 ≤ tick }
     ensures others { OnOk result ((a : ℕ) → seen.now.actor ≢ a
@@ -311,7 +310,7 @@ fn open_in(
         → KeepsActor (sent ++ past) (samples_of samples seen.now.actor) seen.now.actor
         (record_in records.old.entries seen.now.actor)
         → 1 ≤ (record_in records.old.entries seen.now.actor).service.relevant_at
-        → MayOpen sent past samples seen.now.actor index tick seen.now.values changes.now
+        → MayOpen sent past samples seen.now.actor index tick seen.now.values sampled
         → KeepsActor (sent ++ after_making past index
         (Opens exports seen.now.actor shown (pairs_of seen.now.values)))
         (samples_of samples seen.now.actor) seen.now.actor
@@ -319,14 +318,14 @@ fn open_in(
     ensures state { OnOk result (state_value
         (record_in records.new.entries seen.now.actor).life.state ≡ Opening) }
     ensures unsent { OnOk result ((past : Past) (samples : List Sample) → tick ≡ tick_count past
-        → IsSampled samples 0 seen.now.values changes.now → AreInTurn samples → (h : ℕ)
+        → AreNewest samples sampled seen.now.values → AreInTurn samples → (h : ℕ)
         → (handle_in (record_in records.new.entries seen.now.actor).handles.handles h).packet
         ≤ high_of past) }
 {
     let Some(kept) = records.get_mut(&seen.actor.0) else {
         return Err(Memory);
     };
-    open_record(kept, class, seen, tick, index, changes)?;
+    open_record(kept, class, seen, tick, index, sampled)?;
     Ok(())
 }
 
@@ -338,24 +337,24 @@ fn open_record(
     seen: &Seen,
     tick: u64,
     index: u16,
-    changes: &[Change],
+    sampled: u64,
 ) -> Result<(), Memory>
     requires { 1 ≤ tick }
     ensures keeps { OnOk result ((sent past : Past) (samples : Samples)
         (exports : List SegmentSpec) (shown : ClassSpec)
         → KeepsActor (sent ++ past) (samples_of samples seen.now.actor) seen.now.actor kept.old
         → 1 ≤ kept.old.service.relevant_at
-        → MayOpen sent past samples seen.now.actor index tick seen.now.values changes.now
+        → MayOpen sent past samples seen.now.actor index tick seen.now.values sampled
         → KeepsActor (sent ++ after_making past index
         (Opens exports seen.now.actor shown (pairs_of seen.now.values)))
         (samples_of samples seen.now.actor) seen.now.actor kept.new) }
     ensures state { OnOk result (state_value kept.new.life.state ≡ Opening) }
     ensures unsent { OnOk result ((past : Past) (samples : List Sample) → tick ≡ tick_count past
-        → IsSampled samples 0 seen.now.values changes.now → AreInTurn samples → (h : ℕ)
+        → AreNewest samples sampled seen.now.values → AreInTurn samples → (h : ℕ)
         → (handle_in kept.new.handles.handles h).packet ≤ high_of past) }
 {
     let values = seen.values.as_slice();
-    kept.handles.opens(tick, class, seen.owns, values, changes)?;
+    kept.handles.opens(tick, class, seen.owns, values, sampled)?;
     kept.life.opens(index);
     kept.service.serves(tick);
     Ok(())

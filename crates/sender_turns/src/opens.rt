@@ -102,15 +102,14 @@ pub fn open_actor(
     let Some(class) = classes.class(seen.class) else {
         return Err(Memory);
     };
-    let changed = changes.since(seen.actor, 0)?;
-    let changed = changed.as_slice();
+    let sampled = changes.newest(seen.actor);
     let made = OpenSent {
         channel: offered.channel,
         last,
         guids: offered.guids,
     };
     keep_open(
-        records, pending, live, known, opens, table, class, seen, tick, changed, made,
+        records, pending, live, known, opens, table, class, seen, tick, sampled, made,
     )?;
     Ok(ready)
 }

@@ -99,7 +99,7 @@ fn an_opened_actor_has_its_turn_where_a_value_changed(rt: HostRuntime) -> Result
         let mut record = ActorRecord::new(rt.alloc(), Guid(actor));
         record.shows(1, true, false);
         let opened = seen(rt.alloc(), actor, before)?;
-        record.opens(1, 1, pawn, false, opened.values.as_slice(), &[])?;
+        record.opens(1, 1, pawn, false, opened.values.as_slice(), 1)?;
         record.life.hears(true);
         record.shows(2, true, false);
         if records.insert(actor, record).is_err() {

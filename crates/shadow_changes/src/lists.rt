@@ -3,7 +3,7 @@ ghost use Rattle.std.specs.Prelude.{◌≡◌, ◌+◌, ◌<◌, ◌≤◌, ◌�
 ghost use Rattle.circular_buffer.specs.Buffer.{buffer};
 ghost use Rattle.protocol_model.specs.Limits.{handle_limit};
 ghost use Rattle.change_model.specs.Changes.{Sample, changes_since};
-ghost use Rattle.shadow_changes.specs.Lists.{KeepsLists, AreListed, AreFalling, above, newest_in, tick_of, no_lists, list_limit};
+ghost use Rattle.shadow_changes.specs.Lists.{KeepsLists, AreListed, AreFalling, above, last_tick, newest_in, tick_of, no_lists, list_limit};
 ghost use Rattle.shadow_changes.specs.Samples.{change_value, may_follow, sample_of};
 ghost use Rattle.shadow_changes.specs.Puts.{IsEnd};
 
@@ -64,6 +64,14 @@ impl Lists {
             push(&mut self.lists, Noted { tick, changes });
         }
         Ok(())
+    }
+
+    /// The tick of the newest sample, 0 where there is none.
+    pub fn newest(&self) -> u64
+        ensures { (samples : List Sample) → KeepsLists self.now samples
+            → result ≡ last_tick samples }
+    {
+        self.tick.unwrap_or(0)
     }
 
     /// Each handle noted above a tick, ascending, with its newest tick. Only lists above that tick

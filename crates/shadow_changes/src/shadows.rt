@@ -2,7 +2,7 @@
 ghost use Rattle.std.specs.Prelude.{◌≡◌, ◌⊎◌, ◌^◌, ◌<◌, ◌≤◌, ◌∷◌, [], ℕ, List, Option, None, map, length, true, unwrap_or, slice_index_or, vec_len, IfOk, OnOk, OnErr, IsErr};
 ghost use Rattle.protocol_model.specs.Limits.{handle_limit};
 ghost use Rattle.change_model.specs.Changes.{Sample, changes_since};
-ghost use Rattle.shadow_changes.specs.Lists.{Lists as ListsSpec, KeepsLists, no_lists};
+ghost use Rattle.shadow_changes.specs.Lists.{Lists as ListsSpec, KeepsLists, last_tick, no_lists};
 ghost use Rattle.shadow_changes.specs.Samples.{Samples, Keeps, IsSpent, samples_of, sample_of, change_value, may_follow, lists_in};
 
 use crate::change::ChangeList;
@@ -65,6 +65,18 @@ impl Shadows {
                 self.spent = true;
                 Err(memory)
             }
+        }
+    }
+
+    /// The tick of an actor's newest sample, 0 where it was never sampled. Of lists that are spent it
+    /// says nothing.
+    pub fn newest(&self, actor: Guid) -> u64
+        ensures { (samples : Samples) → Keeps self.now samples
+            → result ≡ last_tick (samples_of samples actor) }
+    {
+        match self.lists.get(actor.0 as usize) {
+            Some(Some(lists)) => lists.newest(),
+            _ => 0,
         }
     }
 

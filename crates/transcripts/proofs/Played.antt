@@ -1,5 +1,5 @@
 -- What the sink took of the lines replayed so far, and what is left.
-use Rattle.std.proofs.Common.{◌≡◌, ℕ, suc, ◌+◌, ◌<◌, ◌≤◌, map, drop, add-one, List, [], ◌∷◌, ◌++◌, length, take, fold, refl, sym, ◌∙◌, ap, subst, arith, append_assoc, length-append, Option, Some, None}
+use Rattle.std.proofs.Common.{◌≡◌, ℕ, suc, ◌+◌, ◌<◌, ◌≤◌, map, drop, add-one, List, [], ◌∷◌, ◌++◌, length, take, fold, sym, ◌∙◌, ap, subst, arith, append_assoc, length-append, Option, Some, None}
 use Rattle.std.proofs.lemmas.List.{take-append-le, take_all, append-nil}
 use Rattle.std.proofs.Math.Seq.{take-length, drop-cons}
 use Rattle.std.proofs.Math.ListN.{get_or}

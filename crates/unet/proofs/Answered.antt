@@ -14,7 +14,8 @@ use Rattle.class_layout.specs.Tables as layout
 use Rattle.net_core.specs.declared.outside.sink.WriteRefusal.{WriteRefusal}
 use Rattle.net_core.specs.declared.outside.sink.WriteRefusal.TheVariants as write
 use Rattle.unet.specs.Statuses.{words_unknown, outside_failed, no_memory, IsOfFile, IsOfCommand, IsEarly, IsStatus, status_of}
-use Rattle.unet.specs.Outcome.{Outcome, with_table, outcome_of_script, outcome_of_table, outcome_of_packets}
+use Rattle.sample_script.specs.SampleScript.{sample_script}
+use Rattle.unet.specs.Outcome.{Outcome, with_table, outcome_of_script, outcome_of_table, outcome_of_packets, outcome_of_summary, outcome_of_sample}
 use Rattle.unet.specs.Stopped.{outcome_of_work}
 use Rattle.unet.specs.declared.answer.Work.{Work}
 use Rattle.unet.specs.declared.answer.Work.TheVariants as work
@@ -45,6 +46,18 @@ of_packets version file = by_reading (packets_of version file) refl
     by_reading (Ok packets) is = rw (is, outcome_of_packets) (inl refl)
     by_reading (Err bad) is = rw (is, outcome_of_packets) (inr (inr (inr refl)))
 
+of_summary : (ticks : ℕ) (table : Table) (script : List ℕ) → IsOfFile (outcome_of_summary ticks table script).status
+of_summary ticks table script = by_reading (script_of table false script) refl
+  where
+    by_reading : (r : Result (List Line) (ℕ × LineWhy)) → script_of table false script ≡ r
+        → IsOfFile (outcome_of_summary ticks table script).status
+    by_reading (Ok lines) is = rw (is, outcome_of_summary) (inl refl)
+    by_reading (Err bad) is = rw (is, outcome_of_summary) (inr (inr (inl refl)))
+
+of_sample : (ticks : ℕ) → IsOfFile (outcome_of_sample ticks).status
+unfolding outcome_of_sample
+of_sample ticks = of_summary ticks built_in_table (sample_script ticks)
+
 of_work : (w : Work) (file : List ℕ) → IsOfFile (outcome_of_work w file).status
 of_work (work.Replay classes) file = of_script (layout.table_in classes.now) file
 of_work work.ReplayBuiltIn file = of_script built_in_table file
@@ -59,6 +72,12 @@ pub done_work : (w : Work) (file : List ℕ) (result : Result ℕ WriteRefusal) 
     → IfOk result (λ status. EndsWith (outcome_of_work w file) status old new) → IfOk result (λ status. IsOfFile status)
 done_work w file (Ok status) old new ends = same_status status (outcome_of_work w file).status ends.ended (of_work w file)
 done_work w file (Err why) old new ends = tt
+
+-- and so has a sample that was summed up
+pub done_sample : (ticks : ℕ) (result : Result ℕ WriteRefusal) (old new : Option (List ℕ))
+    → IfOk result (λ status. EndsWith (outcome_of_sample ticks) status old new) → IfOk result (λ status. IsOfFile status)
+done_sample ticks (Ok status) old new ends = same_status status (outcome_of_sample ticks).status ends.ended (of_sample ticks)
+done_sample ticks (Err why) old new ends = tt
 
 pub of_command : (result : Result ℕ WriteRefusal) → IfOk result (λ status. IsOfFile status) → IfOk result (λ status. IsOfCommand status)
 of_command (Ok status) h = inr h

@@ -9,9 +9,12 @@ use Rattle.table_model.specs.Checked.{Refusal}
 use Rattle.table_model.specs.Grammar.{table_in}
 use Rattle.table_model.specs.declared.Place.{Place}
 use Rattle.table_model.specs.declared.TableWhy.{TableWhy}
-use Rattle.script_model.specs.Lines.{Text}
-use Rattle.script_model.specs.ScriptRules.{BadLine}
-use Rattle.program_model.specs.Words.{Command, Replay, Check, Show, command_of, is_built_in}
+use Rattle.script_model.specs.Lines.{Line, Text}
+use Rattle.script_model.specs.ScriptRules.{BadLine, script_of}
+use Rattle.replication_model.specs.Story.{story_of}
+use Rattle.sample_script.specs.SampleScript.{sample_script}
+use Rattle.sample_summary.specs.Sampled.{summary_of}
+use Rattle.program_model.specs.Words.{Command, Replay, Check, Show, Sample, command_of, is_built_in}
 use Rattle.program_model.specs.Shown.{LineFault, packets_of, line_refused_text}
 use Rattle.net_core.specs.Counts.{one_more}
 use Rattle.net_core.specs.Folder.{Folder}
@@ -20,7 +23,7 @@ use Rattle.net_core.specs.declared.outside.files.ReadRefusal.TheVariants as read
 use Rattle.net_core.specs.declared.outside.sink.WriteRefusal.{WriteRefusal}
 use Rattle.transcripts.specs.Takes.{TakesPrefix}
 use Rattle.unet.specs.Ends.{Ends, EndsWith, EndsAs}
-use Rattle.unet.specs.Outcome.{Outcome, ReadAnswer, Answers, after_read, with_table, replay_outcome, outcome_of_script, outcome_of_table, outcome_of_packets, outcome_of_command, outcome_after, outcome_of, answers_in, words_refused, file_missing, table_refused, script_refused, built_in_outcome}
+use Rattle.unet.specs.Outcome.{Outcome, ReadAnswer, Answers, done, after_read, with_table, replay_outcome, outcome_of_script, outcome_of_table, outcome_of_packets, outcome_of_summary, outcome_of_sample, outcome_of_command, outcome_after, outcome_of, answers_in, words_refused, file_missing, table_refused, script_refused, built_in_outcome}
 use Rattle.unet.specs.Runs.{Runs, RunsOver, RunsWords, MayAnswer, MayAnswerWords, TakesTranscript, is_table}
 use Rattle.unet.specs.Statuses.{all_done, bad_packets, status_of}
 use Rattle.unet.specs.Stopped.{StopsAt}
@@ -43,6 +46,23 @@ ends_as outcome (Err why) old new done early = early
 pub script_bad : (table : Table) (script : List ℕ) (line : ℕ) (why : LineWhy) → BadLine table false script line why
     → outcome_of_script table script ≡ script_refused line why
 script_bad table script line why is = rw (is, outcome_of_script) refl
+
+-- a script that is summed up
+pub summary_good : (ticks : ℕ) (table : Table) (script : List ℕ) (lines : List Line) → script_of table false script ≡ Ok lines
+    → outcome_of_summary ticks table script ≡ done (summary_of ticks table (story_of table lines))
+summary_good ticks table script lines is = rw (is, outcome_of_summary) refl
+
+-- and one with a bad line
+pub summary_bad : (ticks : ℕ) (table : Table) (script : List ℕ) (line : ℕ) (why : LineWhy) → BadLine table false script line why
+    → outcome_of_summary ticks table script ≡ script_refused line why
+summary_bad ticks table script line why is = rw (is, outcome_of_summary) refl
+
+-- the sample's script is one
+pub sample_is : (ticks : ℕ) (table : Table) (script : List ℕ) (outcome : Outcome) → outcome ≡ outcome_of_summary ticks table script
+    → table ≡ built_in_table → script ≡ sample_script ticks → outcome ≡ outcome_of_sample ticks
+unfolding outcome_of_sample
+sample_is ticks table script outcome is classes text =
+    is ∙ ap (λ (t : Table). outcome_of_summary ticks t script) classes ∙ ap (λ (s : List ℕ). outcome_of_summary ticks built_in_table s) text
 
 -- packets with a bad line
 pub packets_bad : (version : Version) (file : List ℕ) (line : ℕ) (fault : LineFault) → packets_of version file ≡ Err (line, fault)
@@ -103,6 +123,11 @@ pub run_show : (known : Option Folder) (version : Version) (name : Text) (answer
     → Runs known (Show version name) result old new reads reads_now
 run_show known version name answer result old new reads reads_now may ends rose =
     record { answers = record lost { file = answer }; allowed = may; ends = ends; read = rose }
+
+-- a sample is summed up
+pub run_sample : (known : Option Folder) (ticks : ℕ) (result : Result ℕ WriteRefusal) (old new : Option (List ℕ)) (reads : ℕ)
+    → EndsAs (outcome_of_sample ticks) result old new → Runs known (Sample ticks) result old new reads reads
+run_sample known ticks result old new reads ends = record { answers = lost; allowed = tt; ends = ends; read = refl }
 
 -- a script is replayed over the built-in table
 pub run_built_in_replay : (known : Option Folder) (classes script : Text) (answer : ReadAnswer) (result : Result ℕ WriteRefusal)

@@ -6,7 +6,7 @@ use Rattle.protocol_model.specs.BuiltIn.{built_in_table}
 use Rattle.table_model.specs.Checked.{Refusal}
 use Rattle.table_model.specs.Grammar.{table_in}
 use Rattle.script_model.specs.Lines.{Text}
-use Rattle.program_model.specs.Words.{Command, Replay, Check, Show, is_built_in}
+use Rattle.program_model.specs.Words.{Command, Replay, Check, Show, Sample, is_built_in}
 use Rattle.net_core.specs.Folder.{Folder, contents_of}
 use Rattle.net_core.specs.declared.outside.files.ReadRefusal.TheVariants as read
 use Rattle.transcripts.specs.Takes.{TakesPrefix}
@@ -74,6 +74,7 @@ on_command folder (Check classes) answers may =
     (on_read folder classes _ _ answers.table may (λ file. same (outcome_of_table file)))
 on_command folder (Show version name) answers may =
     on_read folder name _ _ answers.file may (λ file. same (outcome_of_packets version file))
+on_command folder (Sample ticks) answers may = inl refl
 
 -- ---- ends
 

@@ -12,7 +12,10 @@ use Rattle.table_model.specs.declared.TableWhy.{TableWhy}
 use Rattle.script_model.specs.Lines.{Text}
 use Rattle.script_model.specs.ScriptRules.{script_of}
 use Rattle.replication_model.specs.Transcript.{transcript}
-use Rattle.program_model.specs.Words.{Command, Replay, Check, Show, command_of, is_built_in}
+use Rattle.replication_model.specs.Story.{story_of}
+use Rattle.sample_script.specs.SampleScript.{sample_script}
+use Rattle.sample_summary.specs.Sampled.{summary_of}
+use Rattle.program_model.specs.Words.{Command, Replay, Check, Show, Sample, command_of, is_built_in}
 use Rattle.program_model.specs.Refused.{table_refused_text, script_refused_text}
 use Rattle.program_model.specs.Checked.{check_text}
 use Rattle.program_model.specs.Shown.{packets_of, show_text, line_refused_text}
@@ -91,6 +94,17 @@ outcome_of_packets version file = elim (packets_of version file) [
   | Err bad ↦ record { status = bad_packets; text = line_refused_text bad }
 ]
 
+-- a script that the table accepts is replayed and summed up, as that of so many ticks; any other is refused
+abbrev pub outcome_of_summary : (ticks : ℕ) → Table → (script : List ℕ) → Outcome
+outcome_of_summary n table script = elim (script_of table false script) [
+  | Ok lines ↦ done (summary_of n table (story_of table lines))
+  | Err bad ↦ script_refused bad.0 bad.1
+]
+
+-- the summary of a sample of so many ticks, over the built-in table
+unfoldable pub outcome_of_sample : (ticks : ℕ) → Outcome
+outcome_of_sample n = outcome_of_summary n built_in_table (sample_script n)
+
 -- ---- commands
 
 -- what the reads of a run answer: of the class table's file, and of the script or the packets
@@ -111,6 +125,7 @@ outcome_of_command (Check classes) answers =
     if is_built_in classes then built_in_outcome else after_read classes outcome_of_table answers.table
 outcome_of_command (Show version name) answers =
     after_read name (outcome_of_packets version) answers.file
+outcome_of_command (Sample ticks) answers = outcome_of_sample ticks
 
 -- the words first, then what they ask for
 abbrev pub outcome_after : (words : List Text) → Answers → Outcome
@@ -136,6 +151,7 @@ answers_in folder (Check classes) =
     record { table = read_in folder classes; file = Err read.Missing }
 answers_in folder (Show version name) =
     record { table = Err read.Missing; file = read_in folder name }
+answers_in folder (Sample ticks) = record { table = Err read.Missing; file = Err read.Missing }
 
 -- the words first, then their files in the folder
 abbrev pub outcome_of : Folder → (words : List Text) → Outcome

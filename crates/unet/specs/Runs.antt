@@ -6,7 +6,7 @@ use Rattle.protocol_model.specs.Value.{Table}
 use Rattle.table_model.specs.Grammar.{table_in}
 use Rattle.script_model.specs.Lines.{Text}
 use Rattle.replication_model.specs.Transcript.{replay_of}
-use Rattle.program_model.specs.Words.{Command, Replay, Check, Show, command_of, is_built_in}
+use Rattle.program_model.specs.Words.{Command, Replay, Check, Show, Sample, command_of, is_built_in}
 use Rattle.net_core.specs.Counts.{one_more}
 use Rattle.net_core.specs.Folder.{Folder, Gives, Lacks, contents_of}
 use Rattle.net_core.specs.declared.outside.files.ReadRefusal.TheVariants as read
@@ -29,6 +29,7 @@ MayAnswerAll known (Replay classes script) answers =
     MayAnswer known classes answers.table × MayAnswer known script answers.file
 MayAnswerAll known (Check classes) answers = MayAnswer known classes answers.table
 MayAnswerAll known (Show version name) answers = MayAnswer known name answers.file
+MayAnswerAll known (Sample ticks) answers = ⊤
 
 -- ---- how many reads there are
 
@@ -44,6 +45,7 @@ reads_after reads (Replay classes script) answers =
     else if is_table answers.table then one_more (one_more reads) else one_more reads
 reads_after reads (Check classes) answers = if is_built_in classes then reads else one_more reads
 reads_after reads (Show version name) answers = one_more reads
+reads_after reads (Sample ticks) answers = reads
 
 -- words that aren't understood name no file
 abbrev pub reads_of_words : (reads : ℕ) → Option Command → Answers → ℕ
@@ -109,6 +111,7 @@ abbrev pub first_file : Command → Option Text
 first_file (Replay classes script) = if is_built_in classes then Some script else Some classes
 first_file (Check classes) = if is_built_in classes then None else Some classes
 first_file (Show version name) = Some name
+first_file (Sample ticks) = None
 
 -- the folder hasn't the first file that the words name
 abbrev pub LacksFirst : Folder → Option Command → Type 0

@@ -1,6 +1,6 @@
 // What a run does of its command: it reads the files that the command names, and answers for them.
 ghost use Rattle.std.specs.Prelude.{◌≡◌, false, None, Some, IfOk, IsErrOf};
-ghost use Rattle.program_model.specs.Words.{Check, Replay, Show, is_built_in};
+ghost use Rattle.program_model.specs.Words.{Check, Replay, Sample, Show, is_built_in};
 ghost use Rattle.net_core.specs.Counts.{Rose};
 ghost use Rattle.net_core.specs.Folder.{Folder, contents_of};
 ghost use Rattle.class_layout.specs.Tables.{table_in};
@@ -10,6 +10,7 @@ ghost use Rattle.unet.specs.Statuses.{IsOfCommand};
 ghost use Rattle.unet.specs.Words.{command_in};
 
 use crate::answer::{Work, answer, say_built_in};
+use crate::sample::say_sample;
 use crate::table::{table_of, tell_stop};
 use crate::words::{Command, is_built_in};
 use class_layout::Classes;
@@ -38,6 +39,7 @@ pub fn do_command<F: Files, S: Sink>(
         Command::Replay { classes, script } => replay(alloc, classes, script, files, out),
         Command::Check { classes } => check(alloc, classes, files, out),
         Command::Show { version, file } => show(alloc, version, file, files, out),
+        Command::Sample { ticks } => sample(alloc, ticks, files, out),
     }
 }
 
@@ -61,6 +63,23 @@ fn show<F: Files, S: Sink>(
 {
     let read = files.read(name);
     answer(alloc, &Work::Show(version), name, read, out)
+}
+
+/// Sums up a sample, which reads no file.
+fn sample<F: Files, S: Sink>(
+    alloc: Global,
+    ticks: u32,
+    files: &mut F,
+    out: &mut S,
+) -> Result<u8, WriteRefusal>
+    ensures runs { Runs (F.folder files.old) (Sample ticks) result
+        (S.taken out.old) (S.taken out.new) (F.reads files.old) (F.reads files.new) }
+    ensures status { IfOk result (λ status. IsOfCommand status) }
+    ensures cause { FaultOf (F.faults files.old) (S.faults out.old)
+        (F.faults files.new) (S.faults out.new) result }
+    ensures folder { F.folder files.new ≡ F.folder files.old }
+{
+    say_sample(alloc, ticks, out)
 }
 
 /// Sums up a class table.

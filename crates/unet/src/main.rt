@@ -18,6 +18,7 @@ mod read_all;
 mod replay;
 mod run;
 mod said;
+mod sample;
 mod show;
 mod start;
 mod status;

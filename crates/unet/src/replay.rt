@@ -64,7 +64,7 @@ pub fn replay<S: Sink>(
 }
 
 /// What is said of a script whose line of this number is refused.
-fn refused_script(alloc: Global, line: usize, why: LineWhy) -> Result<Said, Memory>
+pub fn refused_script(alloc: Global, line: usize, why: LineWhy) -> Result<Said, Memory>
     ensures { IfOk result (λ said. said_of said ≡ script_refused line why) }
 {
     let why = why_word(why);

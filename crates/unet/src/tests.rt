@@ -219,6 +219,34 @@ fn packets_are_shown(rt: HostRuntime) -> Result<(), Fail> {
 }
 
 #[test]
+fn samples_have_their_summary(rt: HostRuntime) -> Result<(), Fail> {
+    let alloc = rt.alloc();
+    for (words, status, text) in [
+        (
+            &["sample", "1"][..],
+            0,
+            "ticks 1\ndown 344 20677\nup 328 1344\nrefused 0\nsettled 459\ntranscript eed9812eba72dd3faa6364d7c63b5486df66ffa0\n",
+        ),
+        (&["sample"][..], 2, "unet: words not understood\n"),
+        (&["sample", "0"][..], 2, "unet: words not understood\n"),
+        (&["sample", "01"][..], 2, "unet: words not understood\n"),
+        (&["sample", "2001"][..], 2, "unet: words not understood\n"),
+        (&["sample", "-1"][..], 2, "unet: words not understood\n"),
+        (
+            &["sample", "18446744073709551617"][..],
+            2,
+            "unet: words not understood\n",
+        ),
+        (&["sample", "1", "2"][..], 2, "unet: words not understood\n"),
+    ] {
+        let (answer, written) = run_over(alloc, words, "")?;
+        assert_eq!(rt; answer, status, "{text}");
+        assert_eq!(rt; written.as_slice(), text.as_bytes(), "{text}");
+    }
+    Ok(())
+}
+
+#[test]
 fn a_failing_write_leaves_the_pieces_before_it(rt: HostRuntime) -> Result<(), Fail> {
     let alloc = rt.alloc();
     let mut taken = Vec::new(alloc);

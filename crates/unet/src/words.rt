@@ -1,9 +1,10 @@
 // The words of the program.
 ghost use Rattle.std.specs.Prelude.{◌≡◌, map, option_map, string_bytes};
-ghost use Rattle.program_model.specs.Words.{command_of, replay_in, check_in, show_in, is_file_name, is_built_in, is_table_name};
+ghost use Rattle.program_model.specs.Words.{command_of, replay_in, check_in, show_in, sample_in, number_in, is_file_name, is_built_in, is_table_name};
 ghost use Rattle.unet.specs.Words.{command_in};
 
 use protocol_model::Version;
+use script_spelling::number;
 
 /// What the words ask for. A table is a file's name, or `-` for the built-in one.
 #[derive(Clone, Copy, Debug)]
@@ -14,6 +15,8 @@ pub enum Command<'a> {
     Check { classes: &'a str },
     /// The packets of a file of hex lines.
     Show { version: Version, file: &'a str },
+    /// The summary of a sample of so many ticks, 1 to 2,000.
+    Sample { ticks: u32 },
 }
 
 /// The command that the words after the program's name ask for; nothing where they break the rules.
@@ -33,6 +36,9 @@ pub fn command_of(words: &[String]) -> Option<Command<'_>>
     }
     if name == "show2" {
         return show_in(Version::Two, fields);
+    }
+    if name == "sample" {
+        return sample_in(fields);
     }
     None
 }
@@ -71,6 +77,30 @@ fn show_in(version: Version, fields: &[String]) -> Option<Command<'_>>
             file: file.as_str(),
         }),
         _ => None,
+    }
+}
+
+fn sample_in(fields: &[String]) -> Option<Command<'_>>
+    ensures { option_map command_in result ≡ sample_in (map string_bytes fields.now) }
+{
+    match fields {
+        [ticks] => {
+            let ticks = ticks_in(ticks.as_bytes())?;
+            Some(Command::Sample { ticks })
+        }
+        _ => None,
+    }
+}
+
+/// A number of ticks, 1 to 2,000.
+fn ticks_in(word: &[u8]) -> Option<u32>
+    ensures { result ≡ number_in 1 2000 word.now }
+{
+    let n = number(word)?;
+    if 1 <= n && n <= 2000 {
+        Some(n as u32)
+    } else {
+        None
     }
 }
 

@@ -133,6 +133,18 @@ fn the_513th_bunch_past_gaps_closes(rt: HostRuntime) -> Result<(), Fail> {
 }
 
 #[test]
+fn the_8193rd_copy_closes(rt: HostRuntime) -> Result<(), Fail> {
+    let classes = Classes::builtin(rt.alloc())?;
+    let deeds = [
+        START,
+        Deed::Crowds(129, Verdict::Closed(Cause::ActorsFull)),
+        Deed::Has(8192, 129),
+    ];
+    assert!(rt; first_wrong(rt.alloc(), &classes, &deeds)?.is_none());
+    Ok(())
+}
+
+#[test]
 fn a_dead_client_does_nothing(rt: HostRuntime) -> Result<(), Fail> {
     let classes = Classes::builtin(rt.alloc())?;
     let said = Verdict::Closed(Cause::BadChannel { channel: 9 });

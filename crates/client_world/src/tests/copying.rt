@@ -24,6 +24,66 @@ fn the_first_packet_makes_a_copy(rt: HostRuntime) -> Result<(), Fail> {
     Ok(())
 }
 
+/// What is said of the first packet, cut after each number of bytes.
+const CUTS: [(usize, Why); 44] = [
+    (0, Why::Short),
+    (15, Why::Short),
+    (20, Why::Short),
+    (24, Why::NoEnd),
+    (37, Why::Short),
+    (40, Why::NoEnd),
+    (55, Why::Short),
+    (58, Why::Short),
+    (65, Why::Short),
+    (73, Why::Short),
+    (80, Why::NoEnd),
+    (95, Why::Short),
+    (101, Why::Short),
+    (111, Why::Short),
+    (119, Why::Short),
+    (126, Why::Short),
+    (135, Why::Short),
+    (143, Why::Short),
+    (151, Why::Short),
+    (155, Why::Short),
+    (167, Why::Short),
+    (174, Why::Short),
+    (181, Why::Short),
+    (190, Why::Short),
+    (196, Why::Short),
+    (206, Why::Short),
+    (208, Why::NoEnd),
+    (216, Why::NoEnd),
+    (224, Why::NoEnd),
+    (237, Why::Short),
+    (247, Why::Short),
+    (255, Why::Short),
+    (263, Why::Short),
+    (271, Why::Short),
+    (277, Why::Short),
+    (287, Why::Short),
+    (295, Why::Short),
+    (303, Why::Short),
+    (311, Why::Short),
+    (313, Why::Short),
+    (320, Why::NoEnd),
+    (328, Why::NoEnd),
+    (336, Why::NoEnd),
+    (344, Why::NoEnd),
+];
+
+#[test]
+fn a_packet_that_was_cut_is_malformed(rt: HostRuntime) -> Result<(), Fail> {
+    let classes = Classes::builtin(rt.alloc())?;
+    let deeds = [
+        Deed::Cuts(&CUTS),
+        Deed::First(Verdict::Taken { number: 1 }),
+        Deed::Pawn(Some((10, -3, 75))),
+    ];
+    assert!(rt; first_wrong(rt.alloc(), &classes, &deeds)?.is_none());
+    Ok(())
+}
+
 #[test]
 fn an_old_packet_puts_no_old_value_back(rt: HostRuntime) -> Result<(), Fail> {
     let classes = Classes::builtin(rt.alloc())?;

@@ -2,10 +2,11 @@
 ghost use Rattle.client_world.specs.Played.{IsReady};
 
 use crate::tests::drafts::{Draft, Sketch, part_of, sure};
+use crate::tests::piles::opening;
 use crate::tests::{FIRST, PAWN};
 use crate::{Arg, CallAnswer, Classes, Client, Guid, Memory, Verdict, Version};
 use class_layout::{CallVerdict, Value};
-use protocol_model::Part;
+use protocol_model::{Part, Why};
 use std::alloc::Global;
 
 /// A deed, with what is to come of it.
@@ -27,6 +28,10 @@ pub(crate) enum Deed<'a> {
     TenParts,
     /// Takes a packet of this number with 100 bunches of a channel, from this bunch on.
     Holds(u64, u16, u16, Verdict),
+    /// Takes the first packet cut after 1 byte, after 2 bytes and so on: each is malformed so.
+    Cuts(&'a [(usize, Why)]),
+    /// Takes packets from 2 up to this one, each with 64 opens: of the last one this is said.
+    Crowds(u64, Verdict),
     /// Calls of an actor a call of this number, by 7.
     Calls(u32, u16, CallAnswer),
     /// Calls `fire` of the Pawn until a call isn't queued: so many are.
@@ -76,6 +81,8 @@ fn does(alloc: Global, client: &mut Client<'_>, deed: &Deed<'_>) -> Result<bool,
         Deed::Holds(number, channel, from, said) => {
             holds(alloc, client, *number, *channel, *from, *said)
         }
+        Deed::Cuts(cuts) => cut(client, cuts),
+        Deed::Crowds(last, said) => crowds(alloc, client, *last, *said),
         Deed::Calls(actor, number, answer) => Ok(call(client, *actor, *number)? == *answer),
         Deed::CallsOften(count, answer) => calls_often(client, *count, *answer),
         Deed::Sends(bytes) => sends(client, *bytes),
@@ -199,6 +206,36 @@ fn holds(
     ensures { IsReady client.new }
 {
     let bytes = hundred(alloc, number, channel, from)?;
+    says(client, bytes.as_slice(), said)
+}
+
+/// What is said of the first packet, cut after each number of bytes.
+fn cut(client: &mut Client<'_>, cuts: &[(usize, Why)]) -> Result<bool, Memory>
+    requires { IsReady client.old }
+    ensures { IsReady client.new }
+{
+    'cuts: for i in 0..cuts.len() {
+        let (at, why) = cuts[i];
+        let bytes = FIRST.get(..i + 1).unwrap_or(&[]);
+        if !says(client, bytes, Verdict::Malformed { at, why })? {
+            return Ok(false);
+        }
+    }
+    Ok(true)
+}
+
+/// Each packet opens Pawns, and is taken but for the last one.
+fn crowds(alloc: Global, client: &mut Client<'_>, last: u64, said: Verdict) -> Result<bool, Memory>
+    requires { IsReady client.old }
+    ensures { IsReady client.new }
+{
+    'packets: for number in 2..last {
+        let bytes = opening(alloc, number)?;
+        if !says(client, bytes.as_slice(), Verdict::Taken { number })? {
+            return Ok(false);
+        }
+    }
+    let bytes = opening(alloc, last)?;
     says(client, bytes.as_slice(), said)
 }
 

@@ -17,5 +17,6 @@ returns-clause-entry c = λ edits stands look class values.
     (c.in_ok-put_own.ensures.pairs edits c.args.player stands mine class values
     ∙ built_in_first table edits c.args.player c.args.actor c.args.look.now c.seen_asleep-seen.result.owns
     (map prop_of c.args.class.now.props)
-    c.seen_asleep-seen.result.values c.put_built_in.new.pairs look mine
-    (ap (λ (k : Class). k.props) class) (ap (λ (s : Seen). s.values) asleep) c.in_ok-put_built_in.ensures.pairs)
+    c.from_vec-pairs.result c.put_built_in.new.pairs look mine
+    (ap (λ (k : Class). k.props) class) (ap pairs_of (c.from_vec-pairs.ensures ∙ c.in_ok-room.ensures.items))
+    c.in_ok-put_built_in.ensures.pairs)

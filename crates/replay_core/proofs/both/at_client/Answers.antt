@@ -1,3 +1,4 @@
+use Rattle.replay_places.specs.Places.{client_at}
 use Rattle.replay_places.proofs.Delivered.{on_ok_then}
 use Rattle.replay_core.proofs.LineKinds.{client_only}
 use Rattle.replay_core.proofs.both.at_client.Goals as goal
@@ -24,12 +25,14 @@ returns-in-ClientCall c =
 pub returns-in-Dump : goal.returns-in-Dump
 returns-in-Dump c =
     rw c.in-Dump.is
-    (on_ok_then c.tell_copies.result _ _ c.tell_copies.ensures (λ tells layout edits p i. record { stands = i; adds = tells layout p i }))
+    (on_ok_then c.tell_copies.result _ _ c.tell_copies.ensures
+    (λ tells layout edits p i. record { stands = i; adds = tells layout p (client_at i) }))
 
 pub returns-in-ClientForge : goal.returns-in-ClientForge
 returns-in-ClientForge c = rw (c.in-ClientForge.is, ← c.as_slice-in-ClientForge.ensures) c.forge.ensures
 
 pub returns-in_default : goal.returns-in_default
 returns-in_default c =
-    absurd (client_only c.args.line.now c.requires.side c.in_default.not-ClientTick c.in_default.not-Down c.in_default.not-DownNew
+    absurd (client_only c.args.line.now c.requires.side c.in_default.not-ClientTick c.in_default.not-Down
+    c.in_default.not-DownNew
     c.in_default.not-ClientCall c.in_default.not-Dump c.in_default.not-ClientForge)

@@ -15,5 +15,6 @@ at_server-requires c = record { side = sym c.is_of_client.ensures ∙ c.if-is_of
 pub returns-then-is_of_client : goal.returns-then-is_of_client
 returns-then-is_of_client c =
     on_ok_then c.at_client.result _ _ c.at_client.ensures
-    (λ does layout. at_client layout c.args.driver.now c.args.place.now c.at_client.new.place _ _ (line_of c.args.line.now)
+    (λ does layout. at_client layout c.args.driver.now c.args.place.now c.at_client.new.place _ _
+    (line_of c.args.line.now)
     (sym c.is_of_client.ensures ∙ c.if-is_of_client.true) (does layout))

@@ -20,6 +20,7 @@ call-requires c =
 pub returns : goal.returns
 returns c =
     on_ok_then c.push.result _ _ c.push.ensures.ok
-    (λ pushes layout edits players i p h at who. called_done layout c.args.driver.now c.call.new.self edits players i p c.args.player c.args.actor c.args.number
+    (λ pushes layout edits players i p h at who. called_done layout c.args.driver.now c.call.new.self edits players i p
+    c.args.player c.args.actor c.args.number
     (map arg_of c.args.args.now) c.in_ok-answer.answer _ _ h at who
     c.in_ok-answer.ensures.serves c.in_ok-answer.ensures.layout c.in_ok-answer.ensures.answer pushes)

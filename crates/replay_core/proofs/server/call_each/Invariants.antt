@@ -9,7 +9,9 @@ use Rattle.replay_core.proofs.Ticks.{CalledSoFar}
 use Rattle.replay_core.proofs.server.call_each.Given as goal
 
 abbrev pub invariant-loop-place : goal.invariant-loop-place
-invariant-loop-place l = (layout : Layout) (edits : Edits) (players : List Player) → Serving layout l.fn.driver edits players → Ascend 0 players
+invariant-loop-place l = (layout : Layout) (edits : Edits) (players : List Player)
+    → Serving layout l.fn.driver edits players → Ascend 0 players
     → ArePlaces layout l.places players
-    → CalledSoFar layout l.driver edits (after_call_of (table_in layout) AtServer l.actor l.number (map arg_of l.args)) players
+    → CalledSoFar layout l.driver edits (after_call_of (table_in layout) AtServer l.actor l.number (map arg_of l.args))
+    players
     (drop l.place-index l.places) l.fn.events l.events

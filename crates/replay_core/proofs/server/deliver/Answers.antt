@@ -28,7 +28,8 @@ returns-in_default c =
     let k = c.args.place.now in
     let get : slice_get k.up (c.args.packet - 1) ≡ None = sym c.get.ensures ∙ ap option_copied c.in_default.is in
     on_ok_then c.push.result _ _ c.push.ensures.ok
-    (λ pushes layout edits players i p h at stands. absent_done layout c.args.driver.now k edits players i p c.args.packet _ _ h at stands get pushes)
+    (λ pushes layout edits players i p h at stands. absent_done layout c.args.driver.now k edits players i p
+    c.args.packet _ _ h at stands get pushes)
 
 pub returns-then-packet-saturating_sub : goal.returns-then-packet-saturating_sub
 returns-then-packet-saturating_sub c =
@@ -36,7 +37,8 @@ returns-then-packet-saturating_sub c =
     let bytes = c.in-Some.bytes.now in
     let get : slice_get k.up (c.args.packet - 1) ≡ Some bytes = sym c.get.ensures ∙ ap option_copied c.in-Some.is in
     on_ok_then c.push-then-packet-saturating_sub.result _ _ c.push-then-packet-saturating_sub.ensures.ok
-    (λ pushes layout edits players i p h at stands. late_done layout c.args.driver.now k edits players i p c.args.packet bytes _ _ h at stands get
+    (λ pushes layout edits players i p h at stands. late_done layout c.args.driver.now k edits players i p c.args.packet
+    bytes _ _ h at stands get
     (less _ _ _ _ (top_is layout c.args.driver.now edits players i p k.player _ h at stands.number c.last_taken.ensures)
     c.saturating_sub.ensures c.if-packet-saturating_sub.true) pushes)
 
@@ -47,7 +49,9 @@ returns c =
     let get : slice_get k.up (c.args.packet - 1) ≡ Some bytes =
     sym c.get.ensures ∙ ap option_copied c.in-Some.is ∙ ap (λ (b : List ℕ). Some b) (sym c.as_slice.ensures) in
     on_ok_then c.push-2.result _ _ c.push-2.ensures.ok
-    (λ pushes layout edits players i p h at stands. heard_done layout c.args.driver.now c.hear.new.driver k edits players i p c.args.packet bytes
+    (λ pushes layout edits players i p h at stands. heard_done layout c.args.driver.now c.hear.new.driver k edits
+    players i p c.args.packet bytes
     c.in_ok-verdict.verdict _ _ _ h at stands get
-    (no_less _ _ _ _ (top_is layout c.args.driver.now edits players i p k.player _ h at stands.number c.last_taken.ensures)
+    (no_less _ _ _ _ (top_is layout c.args.driver.now edits players i p k.player _ h at stands.number
+    c.last_taken.ensures)
     c.saturating_sub.ensures c.if-packet-saturating_sub.false) (c.in_ok-verdict.ensures layout) pushes)

@@ -11,5 +11,6 @@ returns-then-not-is_kept c = λ layout edits players i p h at stands.
 pub returns : goal.returns
 returns c =
     on_ok_then c.deliver.result _ _ c.deliver.ensures
-    (λ does layout edits players i p h at stands. kept_at layout c.deliver.new.driver c.args.place.now edits players i p c.args.every c.args.packet _ _
+    (λ does layout edits players i p h at stands. kept_at layout c.deliver.new.driver c.args.place.now edits players i p
+    c.args.every c.args.packet _ _
     (sym c.is_kept.ensures ∙ c.if-not-is_kept.false) (does layout edits players i p h at stands))

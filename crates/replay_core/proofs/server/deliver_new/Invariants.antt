@@ -14,7 +14,8 @@ invariant-loop-k l = record {
   from : l.from ≡ l.fn.place.told_up;
   to : l.to ≡ length l.fn.place.up;
   within : l.k - l.from ≤ l.to - l.from;
-  done : (layout : Layout) (edits : Edits) (players : List Player) (i : ℕ) (p : Player) → Serving layout l.fn.driver edits players
+  done : (layout : Layout) (edits : Edits) (players : List Player) (i : ℕ) (p : Player)
+      → Serving layout l.fn.driver edits players
       → IsAt players i p → IsPlace layout l.fn.place p
       → IsDoneAt layout l.driver l.place l.fn.events l.events edits players i
       (delivered (table_in layout) edits AtServer l.every l.from (with_told AtServer l.to p, []) (l.k - l.from));

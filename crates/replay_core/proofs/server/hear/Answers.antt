@@ -11,5 +11,6 @@ pub returns : goal.returns
 returns c = λ layout edits players i p h at who.
     heard_by layout c.args.driver.now c.take.new.self edits players i p c.args.player c.args.bytes.now
     c.in_ok-outcome.outcome.verdict c.in_ok-outcome.outcome.handed _ _ h at who
-    c.in_ok-outcome.ensures.serves c.in_ok-outcome.ensures.layout c.in_ok-outcome.ensures.verdict c.in_ok-outcome.ensures.handed
+    c.in_ok-outcome.ensures.serves c.in_ok-outcome.ensures.layout c.in_ok-outcome.ensures.verdict
+    c.in_ok-outcome.ensures.handed
     (c.in_ok-tell_handed.ensures layout)

@@ -16,13 +16,15 @@ pub returns-in_default : goal.returns-in_default
 returns-in_default c = λ layout edits players a t.
     let at = c.loop-i.invariant in
     let empty : into_iter_items c.loop-i.left ≡ [] = nothing_left _ (sym at.short ∙ c.in_default.ensures.cases.0) in
-    absurd (kept_left layout edits players c.loop-i.places.items c.loop-i.i _ _ (rw empty at at.kept layout edits players a t)
+    absurd (kept_left layout edits players c.loop-i.places.items c.loop-i.i _ _
+    (rw empty at at.kept layout edits players a t)
     (below _ _ _ c.loop-i-test.true at.whole))
 
 pub loop-i-preserved : goal.loop-i-preserved
 loop-i-preserved c =
     let at = c.loop-i.invariant in
-    let steps : into_iter_items c.loop-i.left ≡ c.in-Some.ticked ∷ into_iter_items c.next.new.self = c.in-Some.ensures.cases.0 in
+    let steps : into_iter_items c.loop-i.left ≡ c.in-Some.ticked ∷ into_iter_items c.next.new.self =
+    c.in-Some.ensures.cases.0 in
     let items = c.loop-i.places.items in
     let within : c.loop-i.i < length items = below _ _ _ c.loop-i-test.true at.whole in
     record {
@@ -38,4 +40,5 @@ pub returns : goal.returns
 returns c = λ layout edits players a t.
     let at = c.loop-i.invariant in
     let whole = at.whole in
-    kept_all layout edits players c.loop-i.places.items _ c.loop-i.i _ _ (at.kept layout edits players a t) (omega arith)
+    kept_all layout edits players c.loop-i.places.items _ c.loop-i.i _ _ (at.kept layout edits players a t)
+    (omega arith)

@@ -1,16 +1,12 @@
-use Rattle.std.proofs.Common.{◌≡◌, List, [], ◌∷◌, map, length, refl, sym, ap, ◌∙◌, subst, append_assoc, append-nil, arith}
+use Rattle.std.proofs.Common.{◌≡◌, List, [], ◌∷◌, map, length, sym, ap, ◌∙◌, subst, append_assoc, arith}
 use Rattle.std.specs.Vec.Iter.{into_iter_items}
 use Rattle.class_layout.specs.Tables.{table_in}
 use Rattle.value_codec.specs.declared.handed.Handed.{Handed}
 use Rattle.handovers.specs.Handovers.{handover_of}
 use Rattle.protocol_model.specs.Side.{AtServer}
 use Rattle.replay_places.specs.Doing.{Adds, handover_reports}
-use Rattle.replay_places.proofs.Handed.{server_more}
+use Rattle.replay_places.proofs.Handed.{server_more, all_told}
 use Rattle.replay_core.proofs.server.tell_handed.Goals as goal
-
-nothing_left : (l : List Handed) → length l ≡ 0 → l ≡ []
-nothing_left [] h = refl
-nothing_left (x ∷ xs) h = absurd (omega arith)
 
 pub loop-handed-preserved : goal.loop-handed-preserved
 loop-handed-preserved c =
@@ -19,15 +15,18 @@ loop-handed-preserved c =
     let steps : into_iter_items at.handed-iterator ≡ x ∷ into_iter_items c.next.new.self = c.in-Some.ensures.steps.0 in
     record {
       left = append_assoc at.yielded (x ∷ []) _ ∙ rw (← steps) at.invariant.left;
-      short = (let was = at.invariant.short in let gone = c.in-Some.ensures.steps.1 in let shorter = ap length steps in omega arith);
-      told = λ layout. server_more layout c.args.player at.yielded x _ _ _ (at.invariant.told layout) c.in_ok-push.ensures.ok;
+      short = (let was = at.invariant.short in let gone = c.in-Some.ensures.steps.1 in let shorter = ap length steps in
+          omega arith);
+      told = λ layout. server_more layout c.args.player at.yielded x _ _ _ (at.invariant.told layout)
+          c.in_ok-push.ensures.ok;
     }
 
 pub returns : goal.returns
 returns c =
     let at = c.loop-handed in
-    let none = c.in-None.ensures.steps in
-    let empty : into_iter_items at.handed-iterator ≡ [] = nothing_left _ (sym at.invariant.short ∙ none.0) in
-    let all : at.yielded ≡ c.args.calls = sym (append-nil at.yielded) ∙ rw empty at at.invariant.left in
-    λ layout. subst (λ (l : List Handed). Adds (table_in layout) c.args.events.now c.loop-handed.events (handover_reports AtServer c.args.player (map (handover_of layout) l)))
+    let none = sym at.invariant.short ∙ c.in-None.ensures.steps.0 in
+    let all : at.yielded ≡ c.args.calls =
+    all_told at.yielded (into_iter_items at.handed-iterator) c.args.calls none at.invariant.left in
+    λ layout. subst (λ (l : List Handed). Adds (table_in layout) c.args.events.now c.loop-handed.events
+    (handover_reports AtServer c.args.player (map (handover_of layout) l)))
     all (at.invariant.told layout)

@@ -11,5 +11,6 @@ abbrev pub invariant-loop-handed : goal.invariant-loop-handed
 invariant-loop-handed l = record {
   left : l.yielded ++ into_iter_items l.handed-iterator ≡ l.fn.calls;
   short : into_iter_len l.handed-iterator ≡ length (into_iter_items l.handed-iterator);
-  told : (layout : Layout) → Adds (table_in layout) l.fn.events l.events (handover_reports AtClient l.player (map (handover_of layout) l.yielded));
+  told : (layout : Layout) → Adds (table_in layout) l.fn.events l.events
+      (handover_reports AtClient l.player (map (handover_of layout) l.yielded));
 }

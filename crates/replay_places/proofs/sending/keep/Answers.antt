@@ -18,12 +18,15 @@ loop-packet-preserved c =
     let side = side_of c.args.sender in
     record {
       left = append_assoc at.yielded (x ∷ []) _ ∙ rw (← steps) at.invariant.left;
-      short = (let was = at.invariant.short in let gone = c.in-Some.ensures.steps.1 in let shorter = ap length steps in omega arith);
+      short = (let was = at.invariant.short in let gone = c.in-Some.ensures.steps.1 in let shorter = ap length steps in
+          omega arith);
       kept = c.in_ok-keep_one.ensures.kept ∙ ap (λ (l : List (List ℕ)). l ++ x.bytes ∷ []) at.invariant.kept
           ∙ append_assoc c.args.packets.now (map bytes_of at.yielded) (x.bytes ∷ [])
           ∙ ap (λ (l : List (List ℕ)). c.args.packets.now ++ l) (sym (map-append bytes_of at.yielded (x ∷ [])));
-      told = λ table. subst (Adds table c.args.events.now c.keep_one.new.events) (sym (map-append (sent_report side c.args.player) at.yielded (x ∷ [])))
-          (adds_both table c.args.events.now c.loop-packet.events c.keep_one.new.events (map (sent_report side c.args.player) at.yielded) (sent_report side c.args.player x ∷ [])
+      told = λ table. subst (Adds table c.args.events.now c.keep_one.new.events)
+          (sym (map-append (sent_report side c.args.player) at.yielded (x ∷ [])))
+          (adds_both table c.args.events.now c.loop-packet.events c.keep_one.new.events
+          (map (sent_report side c.args.player) at.yielded) (sent_report side c.args.player x ∷ [])
           (at.invariant.told table) (c.in_ok-keep_one.ensures.told table));
     }
 
@@ -41,4 +44,5 @@ returns-clause-told c =
     let none = c.in-None.ensures.steps in
     let empty : into_iter_items at.packet-iterator ≡ [] = nothing_left _ (sym at.invariant.short ∙ none.0) in
     let all : at.yielded ≡ c.args.sent = sym (append-nil at.yielded) ∙ rw empty at at.invariant.left in
-    λ table. subst (λ (l : List Sent). Adds table c.args.events.now c.loop-packet.events (map (sent_report (side_of c.args.sender) c.args.player) l)) all (at.invariant.told table)
+    λ table. subst (λ (l : List Sent). Adds table c.args.events.now c.loop-packet.events
+    (map (sent_report (side_of c.args.sender) c.args.player) l)) all (at.invariant.told table)

@@ -50,7 +50,7 @@ returns-clause-keeps c = λ s sent past samples exports shown told may rs ps ls 
     }) (sent ++ after_making past o.channel m) samples)
     (sym (c.in_ok-push.ensures.items ∙ ap (λ (ns : List ℕ). ns ++ a ∷ []) (sym ps)))
     (keeps_entered s sent past samples a c.args.tick exports shown (pairs_of c.args.seen.now.values)
-    c.args.seen.now.values c.args.changes.now o told may c.open_in.new.records.entries c.insert_live.new.live.items
+    c.args.seen.now.values c.args.sampled o told may c.open_in.new.records.entries c.insert_live.new.live.items
     c.note_open.new.known.items c.note_open.new.opens.items enters)
 
 pub bind-requires-clause-channel_free : goal.bind-requires-clause-channel_free

@@ -6,7 +6,7 @@ use Rattle.change_model.specs.Changes.{Sample}
 use Rattle.connection_model.specs.Bunches.{after_making}
 use Rattle.value_codec.specs.declared.pair.Pair.{Pair as PairValue}
 use Rattle.shadow_changes.specs.Samples.{samples_of}
-use Rattle.sender_records.specs.Handles.{KeepsHandles, IsSampled, pairs_of}
+use Rattle.sender_records.specs.Handles.{KeepsHandles, AreNewest, pairs_of}
 use Rattle.sender_turns.proofs.Unsent.{none_unsent}
 use Rattle.sender_turns.proofs.opening.open_record.Goals as goal
 
@@ -24,7 +24,7 @@ returns-clause-keeps c = λ sent past samples exports shown k some may.
       handles = λ o. subst (λ (vs : List PairValue). KeepsHandles (sent ++ after_making past c.args.index
           (Opens exports a shown (pairs_of vs))) own a c.opens.new.self) is
           (c.in_ok-opens.ensures.keeps sent past c.args.index a exports shown own may.sends may.unsent may.now
-          (subst (λ (vs : List PairValue). IsSampled own 0 vs c.args.changes.now) (sym is) may.sampled) may.turn);
+          (subst (λ (vs : List PairValue). AreNewest own c.args.sampled vs) (sym is) may.sampled) may.turn);
     }
 
 pub returns-clause-unsent : goal.returns-clause-unsent
@@ -35,5 +35,5 @@ returns-clause-unsent c = λ past samples now sampled turn h.
     (λ p e. subst (λ (vs : List PairValue). KeepsHandles (after_making p c.args.index
     (Opens [] a no_class (pairs_of vs))) samples a c.opens.new.self) is
     (c.in_ok-opens.ensures.keeps [] p c.args.index a [] no_class samples refl refl e
-    (subst (λ (vs : List PairValue). IsSampled samples 0 vs c.args.changes.now) (sym is) sampled) turn))
+    (subst (λ (vs : List PairValue). AreNewest samples c.args.sampled vs) (sym is) sampled) turn))
     past now h

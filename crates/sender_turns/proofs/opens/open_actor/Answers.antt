@@ -1,7 +1,6 @@
-use Rattle.std.proofs.Common.{◌≡◌, ◌∙◌, ℕ, List, Bool, false, Option, map, slice_index_or, sym, ap, subst, arith}
+use Rattle.std.proofs.Common.{◌≡◌, ◌∙◌, ℕ, List, Bool, false, Option, slice_index_or, sym, ap, subst, arith}
 use Rattle.protocol_model.specs.Side.{AtServer}
 use Rattle.protocol_model.specs.World.{class_at}
-use Rattle.change_model.specs.Changes.{changes_since}
 use Rattle.connection_model.specs.Exports.{needed_segments}
 use Rattle.connection_model.specs.Items.{open_message}
 use Rattle.class_layout.specs.Tables.{table_in}
@@ -9,7 +8,8 @@ use Rattle.link_end.specs.Packs.{sent_now}
 use Rattle.channel_table.specs.Channels.{Channels}
 use Rattle.channel_table.specs.Holders.{Bound}
 use Rattle.bunch_packing.specs.Both.{PacksBoth}
-use Rattle.shadow_changes.specs.Samples.{change_value, samples_of}
+use Rattle.shadow_changes.specs.Lists.{last_tick}
+use Rattle.shadow_changes.specs.Samples.{samples_of}
 use Rattle.sender_steps.specs.declared.sent.OpenSent.{OpenSent}
 use Rattle.sender_steps.specs.Sights.{seen_value}
 use Rattle.sender_turns.specs.Opening.{AreBound}
@@ -113,8 +113,8 @@ returns-clause-stands c = λ s end before p samples parts h.
     let u = under layout changes seen s l t end before p samples c.args.tick h o k in
     let exports = needed_segments p.past (class_at (table_in layout) seen.class) in
     let shown = class_at (table_in layout) seen.class in
-    let changed : map change_value c.as_slice-changed.result.now ≡ changes_since (samples_of samples seen.actor) 0 =
-    ap (map change_value) c.as_slice-changed.ensures ∙ c.in_ok-changed.ensures.changes samples h.noted in
+    let sampled : c.newest-sampled.result ≡ last_tick (samples_of samples seen.actor) =
+    c.newest-sampled.ensures samples h.noted in
     let rest = c.in_ok-keep_open.ensures.rest in
     let packs = c.in_ok-offered.ensures.packs s end before p samples changes c.args.tick
     (parts.known_are ∙ sym c.as_slice.ensures.value) h in
@@ -131,7 +131,7 @@ returns-clause-stands c = λ s end before p samples parts h.
     (after_opening layout end p seen) packs))
     (c.in_ok-keep_open.ensures.keeps s u.sent p.past samples exports shown
     (told layout changes seen s l t end before p samples c.args.tick h o k)
-    (may layout changes seen s l t end before p samples c.args.tick h o k c.as_slice-changed.result.now changed)
+    (may layout changes seen s l t end before p samples c.args.tick h o k c.newest-sampled.result sampled)
     parts.records_are parts.pending_are parts.live_are parts.known_are parts.opens_are)
     (c.in_ok-keep_open.ensures.bound u.sent p.past exports shown
     (bound_before layout changes seen s l t end before p samples c.args.tick h o k c.make_open.new.table

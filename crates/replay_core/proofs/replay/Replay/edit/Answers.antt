@@ -17,5 +17,7 @@ pub returns-clause-stands : goal.returns-clause-stands
 returns-clause-stands c =
     let now = c.args.self.now in
     let same = ap (λ (r : Kept). r.driver) c.self.view_is in
-    λ story s. subst (λ (r : Kept). Stands (record r { driver = c.edit.new.self }) (record story { edits = edit_of c.args.e ∷ story.edits })) (sym c.self.view_is)
-    (edited now story c.args.e c.edit.new.self s (rw same at c.in-Ok.ensures.serves) (rw same at c.in-Ok.ensures.layout))
+    λ story s. subst (λ (r : Kept). Stands (record r { driver = c.edit.new.self })
+    (record story { edits = edit_of c.args.e ∷ story.edits })) (sym c.self.view_is)
+    (edited now story c.args.e c.edit.new.self s (rw same at c.in-Ok.ensures.serves)
+    (rw same at c.in-Ok.ensures.layout))

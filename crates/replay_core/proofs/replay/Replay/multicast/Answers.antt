@@ -13,23 +13,31 @@ call_each-requires c =
     let now = c.args.self.now in
     let s = c.requires in
     let driver = ap (λ (k : Kept). k.driver) c.self.view_is in
-    let places : c.as_slice.result.now ≡ now.places = c.as_slice.ensures.value ∙ ap (λ (k : Kept). k.places) c.self.view_is in
-    record { there = (now.layout, s.0.edits, s.0.players, rw driver s.1.serving, s.1.ascend, rw places s.1.places, s.2) }
+    let places : c.as_slice.result.now ≡ now.places = c.as_slice.ensures.value
+    ∙ ap (λ (k : Kept). k.places) c.self.view_is in
+    record {
+      there = (now.layout, s.0.edits, s.0.players, rw driver s.1.serving, s.1.ascend, rw places s.1.places, s.2);
+    }
 
 pub returns-clause-told : goal.returns-clause-told
 returns-clause-told c =
     let now = c.args.self.now in
     let driver = ap (λ (k : Kept). k.driver) c.self.view_is in
-    let places : c.as_slice.result.now ≡ now.places = c.as_slice.ensures.value ∙ ap (λ (k : Kept). k.places) c.self.view_is in
+    let places : c.as_slice.result.now ≡ now.places = c.as_slice.ensures.value
+    ∙ ap (λ (k : Kept). k.places) c.self.view_is in
     λ story s. (all_called now story c.call_each.new.driver c.args.actor c.args.call (map arg_of c.args.args.now) _ _ s
-    (λ edits players h a p. c.in_ok-call_each.ensures now.layout edits players (rw driver h) a (rw places p)) c.new-events.ensures).1
+    (λ edits players h a p. c.in_ok-call_each.ensures now.layout edits players (rw driver h) a (rw places p))
+    c.new-events.ensures).1
 
 pub returns-clause-stands : goal.returns-clause-stands
 returns-clause-stands c =
     let now = c.args.self.now in
     let driver = ap (λ (k : Kept). k.driver) c.self.view_is in
-    let places : c.as_slice.result.now ≡ now.places = c.as_slice.ensures.value ∙ ap (λ (k : Kept). k.places) c.self.view_is in
+    let places : c.as_slice.result.now ≡ now.places = c.as_slice.ensures.value
+    ∙ ap (λ (k : Kept). k.places) c.self.view_is in
     λ story s. subst (λ (k : Kept). Stands (record k { driver = c.call_each.new.driver })
-    (after_line (table_in now.layout) story (lines.CallAll c.args.actor c.args.call (map arg_of c.args.args.now))).0) (sym c.self.view_is)
+    (after_line (table_in now.layout) story (lines.CallAll c.args.actor c.args.call (map arg_of c.args.args.now))).0)
+    (sym c.self.view_is)
     (all_called now story c.call_each.new.driver c.args.actor c.args.call (map arg_of c.args.args.now) _ _ s
-    (λ edits players h a p. c.in_ok-call_each.ensures now.layout edits players (rw driver h) a (rw places p)) c.new-events.ensures).0
+    (λ edits players h a p. c.in_ok-call_each.ensures now.layout edits players (rw driver h) a (rw places p))
+    c.new-events.ensures).0

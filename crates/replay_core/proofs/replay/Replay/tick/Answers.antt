@@ -22,7 +22,8 @@ returns-clause-stands c =
     let now = c.args.self.now in
     let driver = ap (λ (k : Kept). k.driver) c.self.view_is in
     let places = ap (λ (k : Kept). k.places) c.self.view_is in
-    λ story s. subst (λ (k : Kept). Stands (record k { driver = c.tick.new.driver; places = c.keep_all.new.places.items })
+    λ story s. subst (λ (k : Kept). Stands
+    (record k { driver = c.tick.new.driver; places = c.keep_all.new.places.items })
     (after_line (table_in now.layout) story lines.TickAll).0) (sym c.self.view_is)
     (all_ticked now story c.tick.new.driver c.keep_all.new.places.items _ _ _ s
     (λ edits players h. c.in_ok-ticks.ensures.serves now.layout edits players (rw driver h))

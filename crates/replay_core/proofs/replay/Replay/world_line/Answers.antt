@@ -33,8 +33,10 @@ returns-in-Multi-clause-stands c = rw (c.in-Multi.is, ← c.as_slice.ensures) c.
 
 pub returns-in_default-clause-told : goal.returns-in_default-clause-told
 returns-in_default-clause-told c =
-    rw (tick_only c.args.line.now c.requires.whose c.in_default.not-Join c.in_default.not-Edit c.in_default.not-Multi) c.tick.ensures.told
+    rw (tick_only c.args.line.now c.requires.whose c.in_default.not-Join c.in_default.not-Edit c.in_default.not-Multi)
+    c.tick.ensures.told
 
 pub returns-in_default-clause-stands : goal.returns-in_default-clause-stands
 returns-in_default-clause-stands c =
-    rw (tick_only c.args.line.now c.requires.whose c.in_default.not-Join c.in_default.not-Edit c.in_default.not-Multi) c.tick.ensures.stands
+    rw (tick_only c.args.line.now c.requires.whose c.in_default.not-Join c.in_default.not-Edit c.in_default.not-Multi)
+    c.tick.ensures.stands

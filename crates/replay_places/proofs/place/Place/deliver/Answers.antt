@@ -34,7 +34,8 @@ returns c =
     let get : slice_get k.down (c.args.packet - 1) ≡ Some bytes =
     sym c.get.ensures ∙ ap option_copied c.in-Some.is ∙ ap (λ (b : List ℕ). Some b) (sym c.as_slice.ensures) in
     on_ok_then c.push-2.result _ _ c.push-2.ensures.ok
-    (λ pushes layout edits p i. heard_done layout k p edits c.args.packet bytes c.in_ok-verdict.verdict c.hear.new.client _ _ _ i get
+    (λ pushes layout edits p i. heard_done layout k p edits c.args.packet bytes c.in_ok-verdict.verdict
+    c.hear.new.client _ _ _ i get
     (no_less _ _ _ _ (c.last_taken.ensures _ i.plays) c.saturating_sub.ensures c.if-packet-saturating_sub.false)
     (heard_of layout k p i c.in_ok-verdict.ensures.says c.in_ok-verdict.ensures.told c.in_ok-verdict.ensures.plays
     c.in_ok-verdict.ensures.layout c.in_ok-verdict.ensures.version) pushes)

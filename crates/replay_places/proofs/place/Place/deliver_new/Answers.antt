@@ -7,7 +7,8 @@ loop-place-init c = record {
   from = refl;
   to = c.len-to.ensures;
   within = omega arith;
-  done = λ layout edits p i. begins layout c.args.self.now edits p c.args.every c.args.self.now.told_down c.len-to.result c.args.events.now i;
+  done = λ layout edits p i. begins layout c.args.self.now edits p c.args.every c.args.self.now.told_down
+      c.len-to.result c.args.events.now i;
 }
 
 pub deliver_kept-requires-clause-there : goal.deliver_kept-requires-clause-there
@@ -26,8 +27,10 @@ loop-place-preserved c = record {
   from = c.loop-place.invariant.from;
   to = c.loop-place.invariant.to;
   within = ends_within _ _ _ c.loop-place-test.true c.loop-place.invariant.within;
-  done = λ layout edits p i. also_done layout c.loop-place.self c.deliver_kept.new.self edits c.args.every _ c.loop-place.place _ _ _ _ _
-      c.loop-place.auto.place refl (c.loop-place.invariant.done layout edits p i) (λ q j. c.in_ok-deliver_kept.ensures layout edits q j);
+  done = λ layout edits p i. also_done layout c.loop-place.self c.deliver_kept.new.self edits c.args.every _
+      c.loop-place.place _ _ _ _ _
+      c.loop-place.auto.place refl (c.loop-place.invariant.done layout edits p i)
+      (λ q j. c.in_ok-deliver_kept.ensures layout edits q j);
 }
 
 pub returns : goal.returns

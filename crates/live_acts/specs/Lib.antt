@@ -1,0 +1,4 @@
+pub mod Acts
+pub mod Performed
+pub mod Refused
+pub mod Stopped

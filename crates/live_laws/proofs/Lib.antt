@@ -1,0 +1,6 @@
+pub mod Begins
+pub mod Parts
+pub mod ServerTurns
+pub mod CallerTurns
+pub mod CallerParts
+pub mod SentOn
